@@ -18,10 +18,12 @@ use Rattle.grub_trace.specs.FirstFault.{no_file, too_many}
 use Rattle.grub_trace.specs.declared.fault.Kind.TheVariants.{MissingQueue, OutOfRange}
 use Rattle.grub_trace.specs.declared.fault.TraceFault.{TraceFault}
 use Rattle.grub_trace.specs.declared.fault.TraceFault.TheVariants as trace
+use Rattle.grub_run.specs.declared.grub_fault.GrubFault.{GrubFault}
 use Rattle.grub_run.specs.declared.grub_fault.GrubFault.TheVariants as run
 use Rattle.grub_run.specs.declared.program_fault.ProgramFault.{ProgramFault}
 use Rattle.grub_run.specs.declared.program_fault.ProgramFault.TheVariants as faults
 use Rattle.grub_run.specs.Faults.{First, HoldAll, Tells, names_of}
+use Rattle.grub_run.specs.Written.{IsFaultOf}
 use Rattle.grub_run.specs.inside.Telling.{IsOfReading, IsPlaced, TellsOf}
 
 -- what is so of a fault is so of what hands it on
@@ -85,3 +87,11 @@ count_told o g source paths files fault r many nothing exact hold placed = ⊎_e
     let all : length files ≡ 0 = rw (← length_all_zip (Holds o g source) (names_of paths) files hold, length-map) h in
     subst (Tells o g source (names_of paths)) (sym is) (record { files = files; hold = hold; says = record { kind = MissingQueue; file = 0; is = no_file all; told = refl; named = named } }))
     exact
+
+-- the fault of a run, told with the name of its file
+pub fault_told : {O N D : Type 0} (o : Opener O D) (g : Reader N D) (source : Source O N) (names files : List (List ℕ)) (fault : GrubFault) (r : ProgramFault) → HoldAll o g source names files → IsFaultOf files fault → IsPlaced names fault r → Tells o g source names r
+fault_told o g source names files (run.Trace (trace.At k f n)) r hold is (path, same, named) = subst (Tells o g source names) (sym same) (record { files = files; hold = hold; says = record { kind = k; file = f; is = is; told = refl; named = named } })
+fault_told o g source names files (run.Trace trace.NoMemory) r hold is same = subst (Tells o g source names) (sym same) refl
+fault_told o g source names files (run.Run fault) r hold is same = subst (Tells o g source names) (sym same) tt
+fault_told o g source names files (run.Text fault) r hold is same = subst (Tells o g source names) (sym same) tt
+fault_told o g source names files run.WriteFault r hold is same = subst (Tells o g source names) (sym same) tt

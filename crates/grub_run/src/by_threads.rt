@@ -14,17 +14,18 @@ ghost use Rattle.grub_run.specs.inside.Ran.{BeginsRun, IsFaultOfRun, WritesRun};
 ghost use Rattle.grub_run.specs.declared.grub_fault.GrubFault.TheVariants as faults;
 
 use crate::grub_fault::GrubFault;
-use crate::report::write_report;
+use crate::report::{QueueReport, write_report};
 use grub_book::Reading;
 use grub_plan::{Plan, Report, TextFault};
 use grub_trace::read_files_by_threads;
+use grub_views::LineRoom;
 use grub_workers::{NoGate, run};
 use std::alloc::Global;
 use std::io;
 use std::io::Write;
 use std::sync::Wait;
 use std::thread::Threads;
-use text_bytes::{Blocks, LINE_MAX, line_buffer, write_buffer};
+use text_bytes::{LINE_MAX, write_buffer};
 
 /// `run_texts` for many and long files: several threads read them and make the lines of the reports, and the files' bytes
 /// are dropped before the run, so their memory is free for the entries. The text goes through buffers of fixed size, which
@@ -83,21 +84,10 @@ fn write_run<R: Threads + Wait + Sync, W: Write>(
         Ok(outcome) => outcome,
         Err(fault) => return Err(GrubFault::Run(fault)),
     };
-    let Ok(buffer) = line_buffer(alloc) else {
+    let Ok(room) = LineRoom::new(alloc) else {
         return Err(GrubFault::Text(TextFault::NoMemory));
     };
-    let Ok(blocks) = Blocks::new(alloc) else {
-        return Err(GrubFault::Text(TextFault::NoMemory));
-    };
-    match write_reports(
-        rt,
-        blocks,
-        buffer,
-        out,
-        plan,
-        &outcome.reports,
-        &outcome.closing,
-    ) {
+    match write_reports(rt, room, out, plan, &outcome.reports, &outcome.closing) {
         Ok(()) => Ok(()),
         Err(_) => Err(GrubFault::WriteFault),
     }
@@ -106,15 +96,14 @@ fn write_run<R: Threads + Wait + Sync, W: Write>(
 /// Writes the texts of the reports, in file order, and flushes.
 fn write_reports<R: Threads + Sync, W: Write>(
     rt: &R,
-    mut blocks: Blocks,
-    mut buffer: Vec<u8>,
+    mut room: LineRoom,
     out: &mut W,
     plan: &Plan,
     reports: &[Report],
     closing: &[Reading],
 ) -> io::Result<()>
-    requires empty { buffer.items ≡ [] }
-    requires room { LINE_MAX ≤ vec_capacity buffer }
+    requires empty { room.buffer.items ≡ [] }
+    requires room { LINE_MAX ≤ vec_capacity room.buffer }
     requires one_each { length reports.now ≡ length closing.now }
     requires most { length reports.now ≤ QUEUES_MAX }
     requires tasks { AllAsksOf plan.now reports.now }
@@ -124,17 +113,13 @@ fn write_reports<R: Threads + Sync, W: Write>(
         (texts_from plan.now.names 0 reports.now closing.now)) }
 {
     for (r, report) in reports.iter().enumerate() {
-        write_report(
-            rt,
-            &mut blocks,
-            &mut buffer,
-            out,
-            plan,
-            r as u32,
+        let queue = QueueReport {
+            r: r as u32,
             report,
-            closing[r],
-        )?;
+            closing: closing[r],
+        };
+        write_report(rt, &mut room, out, plan, queue)?;
     }
-    write_buffer(&mut buffer, out)?;
+    write_buffer(&mut room.buffer, out)?;
     out.flush()
 }

@@ -13,6 +13,7 @@ use crate::paths::{check_paths, placed, read_files};
 use crate::program_fault::ProgramFault;
 use crate::show_fault::ShowFault;
 use crate::view::{FileView, write_view};
+use grub_workers::Attempts;
 use std::alloc::Global;
 use std::io;
 use std::io::Write;
@@ -20,7 +21,7 @@ use std::sync::Wait;
 use std::thread::Threads;
 use text_bytes::Source;
 
-/// Reads the files of these names, runs them with so many tries and rounds, and prints the texts of their reports.
+/// Reads the files of these names, runs them with so many attempts at each ask, and prints the texts of their reports.
 ///
 /// The bytes of at most 64 files are kept at a time.
 pub fn print_reports<
@@ -33,27 +34,29 @@ pub fn print_reports<
 >(
     rt: &R,
     alloc: Global,
-    tries: u8,
-    rounds: u16,
+    attempts: Attempts,
     source: &Source<O, N>,
     paths: &[&'a str],
     out: &mut W,
 ) -> Result<(), ProgramFault<'a>>
-    requires rounds { 1 ≤ rounds }
+    requires rounds { 1 ≤ attempts.rounds }
     requires open { O.IsAlwaysCallable source.now.open }
     requires read { N.IsAlwaysCallable source.now.read }
     ensures done { OnOk result (Whole O.Fn N.Fn source.now
-        (Writes (IsOutput tries) (W.contents out.old) (W.contents out.new)) (names_of paths.now)) }
+        (Writes (IsOutput attempts.tries) (W.contents out.old) (W.contents out.new))
+        (names_of paths.now)) }
     ensures fault { IfErr result (Tells O.Fn N.Fn source.now (names_of paths.now)) }
     // On every fault but that of the writer nothing was printed, and on that one a beginning of the reports.
     ensures nothing { IfErr result
         (λ e. (e ≡ faults.Run run_faults.WriteFault → ⊥) → out.new ≡ out.old) }
     ensures beginning { IfErr result
         (λ e. e ≡ faults.Run run_faults.WriteFault → Whole O.Fn N.Fn source.now
-        (Begins (IsOutput tries) (W.contents out.old) (W.contents out.new)) (names_of paths.now)) }
+        (Begins (IsOutput attempts.tries) (W.contents out.old) (W.contents out.new))
+        (names_of paths.now)) }
 {
     check_paths(alloc, source, paths)?;
     let files = read_files(alloc, source, paths)?;
+    let Attempts { tries, rounds } = attempts;
     match run_texts_by_threads(rt, alloc, files, tries, rounds, out) {
         Ok(()) => Ok(()),
         Err(fault) => Err(placed(paths, fault)),

@@ -5,8 +5,8 @@ ghost use Rattle.text_bytes.specs.declared.pieces.TheConstants.{LINE_MAX};
 
 use grub_plan::Plan;
 use grub_timeline::{Playing, ToldEntry};
+use grub_views::LineRoom;
 use std::alloc::Global;
-use text_bytes::{Blocks, line_buffer};
 
 /// A time line of which nothing was played yet, and room to write it line by line.
 #[derive(Drop)]
@@ -16,13 +16,12 @@ pub struct Ready<'a> {
     /// The entries that were played last.
     pub latest: Vec<ToldEntry>,
 
-    pub blocks: Blocks,
-    pub buffer: Vec<u8>,
+    pub room: LineRoom,
     ghost nothing: { playing.told ≡ [] },
     ghost holds: { playing.most ≤ vec_capacity latest },
     ghost waiting: { length playing.plan.setup.tasks + 3 ≤ vec_capacity latest },
-    ghost empty: { buffer.items ≡ [] },
-    ghost room: { LINE_MAX ≤ vec_capacity buffer },
+    ghost empty: { room.buffer.items ≡ [] },
+    ghost line: { LINE_MAX ≤ vec_capacity room.buffer },
 }
 
 impl<'a> Ready<'a> {
@@ -30,10 +29,7 @@ impl<'a> Ready<'a> {
     pub(crate) fn new(alloc: Global, plan: &'a Plan) -> Option<Ready<'a>>
         ensures plan { IfSome result (λ x. x.playing.plan ≡ plan.now) }
     {
-        let Ok(buffer) = line_buffer(alloc) else {
-            return None;
-        };
-        let Ok(blocks) = Blocks::new(alloc) else {
+        let Ok(room) = LineRoom::new(alloc) else {
             return None;
         };
         let Ok(playing) = Playing::new(alloc, plan) else {
@@ -45,8 +41,7 @@ impl<'a> Ready<'a> {
         Some(Ready {
             playing,
             latest,
-            blocks,
-            buffer,
+            room,
         })
     }
 }

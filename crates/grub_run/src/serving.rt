@@ -7,7 +7,9 @@ ghost use Rattle.grub_run.specs.Shown.{IsShown};
 
 use crate::printing::{print_reports, print_view};
 use crate::program_fault::{ProgramFault, STATUS_FILE, STATUS_SYSTEM, STATUS_USAGE};
+use crate::streams::Streams;
 use crate::view::FileView;
+use grub_workers::Attempts;
 use std::alloc::Global;
 use std::io;
 use std::io::Write;
@@ -15,8 +17,8 @@ use std::sync::Wait;
 use std::thread::Threads;
 use text_bytes::Source;
 
-/// Prints the reports of the files of these names to `out`, or the line of a fault to `faults`, and gives the status:
-/// 0 for reports, `STATUS_FILE` or `STATUS_SYSTEM` for a fault.
+/// Prints the reports of the files of these names, or the line of a fault, and gives the status: 0 for reports,
+/// `STATUS_FILE` or `STATUS_SYSTEM` for a fault.
 pub fn serve_files<
     R: Threads + Wait + Sync,
     D: Drop,
@@ -27,33 +29,32 @@ pub fn serve_files<
 >(
     rt: &R,
     alloc: Global,
-    tries: u8,
-    rounds: u16,
+    attempts: Attempts,
     source: &Source<O, N>,
     paths: &[&str],
-    out: &mut W,
-    faults: &mut E,
+    streams: &mut Streams<W, E>,
 ) -> u8
-    requires rounds { 1 ≤ rounds }
+    requires rounds { 1 ≤ attempts.rounds }
     requires open { O.IsAlwaysCallable source.now.open }
     requires read { N.IsAlwaysCallable source.now.read }
     ensures status { (result ≡ 0) ⊎ (result ≡ STATUS_FILE) ⊎ (result ≡ STATUS_SYSTEM) }
     ensures done { result ≡ 0 → Whole O.Fn N.Fn source.now
-        (Writes (IsOutput tries) (W.contents out.old) (W.contents out.new)) (names_of paths.now) }
+        (Writes (IsOutput attempts.tries) (W.contents streams.old.out)
+        (W.contents streams.new.out)) (names_of paths.now) }
     ensures file { result ≡ STATUS_FILE → HasFileFault O.Fn N.Fn source.now (names_of paths.now) }
-    ensures nothing { result ≡ STATUS_FILE → out.new ≡ out.old }
-    ensures failed { result ≡ STATUS_SYSTEM → (out.new ≡ out.old) ⊎ Whole O.Fn N.Fn source.now
-        (Begins (IsOutput tries) (W.contents out.old) (W.contents out.new)) (names_of paths.now) }
+    ensures nothing { result ≡ STATUS_FILE → streams.new.out ≡ streams.old.out }
+    ensures failed { result ≡ STATUS_SYSTEM → (streams.new.out ≡ streams.old.out)
+        ⊎ Whole O.Fn N.Fn source.now (Begins (IsOutput attempts.tries) (W.contents streams.old.out)
+        (W.contents streams.new.out)) (names_of paths.now) }
 {
-    match print_reports(rt, alloc, tries, rounds, source, paths, out) {
+    match print_reports(rt, alloc, attempts, source, paths, &mut streams.out) {
         Ok(()) => 0,
-        Err(fault) => tell(&fault, faults),
+        Err(fault) => tell(&fault, &mut streams.faults),
     }
 }
 
-/// Prints a view of the time line of the files of these names to `out`, or the line of a fault to `faults`, and gives the
-/// status: 0 for the view, `STATUS_FILE` or `STATUS_SYSTEM` for a fault, and `STATUS_USAGE` where the span of a picture
-/// is empty.
+/// Prints a view of the time line of the files of these names, or the line of a fault, and gives the status: 0 for the
+/// view, `STATUS_FILE` or `STATUS_SYSTEM` for a fault, and `STATUS_USAGE` where the span of a picture is empty.
 pub fn serve_view<
     R: Threads + Sync,
     D: Drop,
@@ -67,25 +68,27 @@ pub fn serve_view<
     view: FileView,
     source: &Source<O, N>,
     paths: &[&str],
-    out: &mut W,
-    faults: &mut E,
+    streams: &mut Streams<W, E>,
 ) -> u8
     requires open { O.IsAlwaysCallable source.now.open }
     requires read { N.IsAlwaysCallable source.now.read }
     ensures status { (result ≡ 0) ⊎ (result ≡ STATUS_FILE) ⊎ (result ≡ STATUS_USAGE)
         ⊎ (result ≡ STATUS_SYSTEM) }
     ensures done { result ≡ 0 → Whole O.Fn N.Fn source.now
-        (Writes (IsShown view) (W.contents out.old) (W.contents out.new)) (names_of paths.now) }
+        (Writes (IsShown view) (W.contents streams.old.out)
+        (W.contents streams.new.out)) (names_of paths.now) }
     ensures file { result ≡ STATUS_FILE → HasFileFault O.Fn N.Fn source.now (names_of paths.now) }
     ensures usage { result ≡ STATUS_USAGE
         → Whole O.Fn N.Fn source.now (HasNoSpan view) (names_of paths.now) }
-    ensures nothing { (result ≡ STATUS_FILE) ⊎ (result ≡ STATUS_USAGE) → out.new ≡ out.old }
-    ensures failed { result ≡ STATUS_SYSTEM → (out.new ≡ out.old) ⊎ Whole O.Fn N.Fn source.now
-        (Begins (IsShown view) (W.contents out.old) (W.contents out.new)) (names_of paths.now) }
+    ensures nothing { (result ≡ STATUS_FILE) ⊎ (result ≡ STATUS_USAGE)
+        → streams.new.out ≡ streams.old.out }
+    ensures failed { result ≡ STATUS_SYSTEM → (streams.new.out ≡ streams.old.out)
+        ⊎ Whole O.Fn N.Fn source.now (Begins (IsShown view) (W.contents streams.old.out)
+        (W.contents streams.new.out)) (names_of paths.now) }
 {
-    match print_view(rt, alloc, view, source, paths, out) {
+    match print_view(rt, alloc, view, source, paths, &mut streams.out) {
         Ok(()) => 0,
-        Err(fault) => tell(&fault, faults),
+        Err(fault) => tell(&fault, &mut streams.faults),
     }
 }
 

@@ -23,7 +23,7 @@ use grub_steps::Step;
 use grub_summary::summary_text;
 use grub_timeline::play;
 use grub_trace::read_files_by_threads;
-use grub_views::{write_steps, write_timeline};
+use grub_views::{StepMaker, write_steps, write_timeline};
 use std::alloc::Global;
 use std::io;
 use std::io::Write;
@@ -144,19 +144,10 @@ fn lines_through<R: Threads + Sync, W: Write>(
     let Ready {
         playing,
         mut latest,
-        mut blocks,
-        mut buffer,
+        mut room,
     } = ready;
-    write_timeline(
-        rt,
-        &mut blocks,
-        &mut buffer,
-        out,
-        plan,
-        &mut latest,
-        playing,
-    )?;
-    write_text(buffer, out)
+    write_timeline(rt, &mut room, out, plan, &mut latest, playing)?;
+    write_text(room.buffer, out)
 }
 
 /// Plays the plan, and writes the steps of its time line.
@@ -193,8 +184,8 @@ fn rows_through<R: Threads + Sync, W: Write>(
     rt: &R,
     ready: Ready<'_>,
     plan: &Plan,
-    mut book: Book<'_>,
-    mut steps: Vec<Step>,
+    book: Book<'_>,
+    steps: Vec<Step>,
     out: &mut W,
 ) -> io::Result<()>
     requires plan { ready.playing.plan ≡ plan.now }
@@ -209,22 +200,16 @@ fn rows_through<R: Threads + Sync, W: Write>(
 {
     let Ready {
         playing,
-        mut latest,
-        mut blocks,
-        mut buffer,
+        latest,
+        mut room,
     } = ready;
-    write_steps(
-        rt,
-        &mut blocks,
-        &mut buffer,
-        out,
-        plan,
-        &mut book,
-        &mut latest,
-        &mut steps,
-        playing,
-    )?;
-    write_text(buffer, out)
+    let mut maker = StepMaker {
+        book,
+        latest,
+        steps,
+    };
+    write_steps(rt, &mut room, out, plan, &mut maker, playing)?;
+    write_text(room.buffer, out)
 }
 
 /// Plays the plan, and writes the summary of its time line.

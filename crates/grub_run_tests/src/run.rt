@@ -11,7 +11,7 @@ use crate::files::{
     NO_EVENTS_REPORT, RETUNES, RETUNES_REPORT, files_of,
 };
 use crate::writer::Expecting;
-use grub_run::{GrubFault, run_texts, run_texts_by_threads};
+use grub_run::{Attempts, GrubFault, run_texts, run_texts_by_threads};
 use grub_trace::{Kind, TraceFault};
 use grub_worked_examples::documentation;
 use std::alloc::{AllocError, Global};
@@ -24,13 +24,13 @@ fn ends<R: Threads + Wait + Sync>(
     rt: &R,
     alloc: Global,
     texts: &[&str],
-    tries: u8,
-    rounds: u16,
+    attempts: Attempts,
     mut out: Expecting<'_>,
     end: Result<(), GrubFault>,
 ) -> bool
-    requires { 1 ≤ rounds }
+    requires { 1 ≤ attempts.rounds }
 {
+    let Attempts { tries, rounds } = attempts;
     let mut plain = out;
     let Some(files) = files_of(alloc, texts) else {
         return false;
@@ -46,15 +46,20 @@ fn prints<R: Threads + Wait + Sync>(
     rt: &R,
     alloc: Global,
     files: &[&str],
-    tries: u8,
-    rounds: u16,
+    attempts: Attempts,
     text: &str,
 ) -> bool
-    requires { 1 ≤ rounds }
+    requires { 1 ≤ attempts.rounds }
 {
     let out = Expecting::new(text.as_bytes());
-    ends(rt, alloc, files, tries, rounds, out, Ok(()))
+    ends(rt, alloc, files, attempts, out, Ok(()))
 }
+
+/// Attempts that are enough where no other file has the task.
+const ENOUGH: Attempts = Attempts {
+    tries: 8,
+    rounds: 64,
+};
 
 /// Event files, each with its tries, its rounds and its report.
 static FILES: [(&str, u8, u16, &str); 6] = [
@@ -72,7 +77,7 @@ fn has_report<R: Threads + Wait + Sync>(
     alloc: Global,
     &(file, tries, rounds, text): &(&str, u8, u16, &str),
 ) -> bool {
-    rounds >= 1 && prints(rt, alloc, &[file], tries, rounds, text)
+    rounds >= 1 && prints(rt, alloc, &[file], Attempts { tries, rounds }, text)
 }
 
 #[test]
@@ -119,7 +124,7 @@ fn prints_cut<R: Threads + Wait + Sync>(
     push_first_lines(&mut file, documentation::FILE, lines).is_ok()
         && push_first_lines(&mut text, documentation::REPORT, reported).is_ok()
         && text.push_str(close).is_ok()
-        && prints(rt, alloc, &[&file], 8, 64, &text)
+        && prints(rt, alloc, &[&file], ENOUGH, &text)
 }
 
 /// A file that is cut between two lines has the report of its whole lines.
@@ -143,8 +148,16 @@ at 3 wake A: not-on
 at 3 read: running=0 this=0
 close running=0 this=0
 ";
-    assert!(rt; prints(&rt, rt.alloc(), &[FIRST], 0, 1, text));
-    assert!(rt; prints(&rt, rt.alloc(), &[FIRST], 0, 3, text));
+    let once = Attempts {
+        tries: 0,
+        rounds: 1,
+    };
+    let thrice = Attempts {
+        tries: 0,
+        rounds: 3,
+    };
+    assert!(rt; prints(&rt, rt.alloc(), &[FIRST], once, text));
+    assert!(rt; prints(&rt, rt.alloc(), &[FIRST], thrice, text));
 }
 
 /// Files that share no task have the reports that each has alone, whatever the schedule.
@@ -170,7 +183,7 @@ at 3 wake A: woken q=4 d=11
 at 3 read: running=524288 this=524288
 close running=524288 this=524288
 ";
-    assert!(rt; prints(&rt, rt.alloc(), &[documentation::FILE, FIRST], 8, 64, text));
+    assert!(rt; prints(&rt, rt.alloc(), &[documentation::FILE, FIRST], ENOUGH, text));
 }
 
 /// So many readings that several threads make their lines.
@@ -221,7 +234,7 @@ fn long_reports(rt: HostRuntime) {
     let long = readings(&rt, alloc, LONG);
     let short = readings(&rt, alloc, SHORT);
     let text = report_of_readings(&rt, alloc);
-    assert!(rt; prints(&rt, alloc, &[&long, &short, &long], 8, 64, &text));
+    assert!(rt; prints(&rt, alloc, &[&long, &short, &long], ENOUGH, &text));
 }
 
 /// Whether a run of these files ends in this fault of a first line, and writes nothing.
@@ -238,7 +251,7 @@ fn ends_before<R: Threads + Wait + Sync>(
         line: 1,
     };
     let end = Err(GrubFault::Trace(fault));
-    ends(rt, alloc, texts, 8, 64, Expecting::new(b""), end)
+    ends(rt, alloc, texts, ENOUGH, Expecting::new(b""), end)
 }
 
 #[test]

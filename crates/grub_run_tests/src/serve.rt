@@ -5,7 +5,7 @@ mod lines;
 use crate::expects::expect_case;
 use crate::files::{FIRST, FIRST_REPORT};
 use crate::writer::Expecting;
-use grub_run::{STATUS_FILE, STATUS_SYSTEM, serve_files};
+use grub_run::{Attempts, STATUS_FILE, STATUS_SYSTEM, Streams, serve_files};
 use std::alloc::Global;
 use std::io::{ErrorKind, Read, Write};
 use std::rt::Files;
@@ -14,32 +14,56 @@ use std::thread::Threads;
 use std::{fs, io};
 use text_bytes::Source;
 
+const ATTEMPTS: Attempts = Attempts {
+    tries: 8,
+    rounds: 64,
+};
+
 /// The status on the files of these names in the folder that the test runs in.
 fn served<R: Files + Threads + Wait + Sync, W: Write, E: Write>(
     rt: &R,
     alloc: Global,
     paths: &[&str],
-    out: &mut W,
-    faults: &mut E,
+    streams: &mut Streams<W, E>,
 ) -> u8 {
     let source = Source {
         open: |path: &str| fs::open(rt, path),
         read: |file: &mut R::File, room: &mut [u8]| file.read(room),
     };
-    serve_files(rt, alloc, 8, 64, &source, paths, out, faults)
+    serve_files(rt, alloc, ATTEMPTS, &source, paths, streams)
 }
 
-/// Whether these files are answered by this status, output and line of a fault.
+/// What the program answers: a status, what it prints, and the line of a fault.
+#[derive(Clone, Copy)]
+struct Answer<'a> {
+    status: u8,
+    out: Expecting<'a>,
+    fault: &'a str,
+}
+
+/// A fault, before which nothing is printed.
+fn refusal(status: u8, fault: &str) -> Answer<'_> {
+    Answer {
+        status,
+        out: Expecting::new(b""),
+        fault,
+    }
+}
+
+/// Whether these files are answered so.
 fn serves<R: Files + Threads + Wait + Sync>(
     rt: &R,
     alloc: Global,
     paths: &[&str],
-    status: u8,
-    mut out: Expecting<'_>,
-    fault: &str,
+    answer: Answer<'_>,
 ) -> bool {
-    let mut faults = Expecting::new(fault.as_bytes());
-    served(rt, alloc, paths, &mut out, &mut faults) == status && out.is_met() && faults.is_met()
+    let mut streams = Streams {
+        out: answer.out,
+        faults: Expecting::new(answer.fault.as_bytes()),
+    };
+    served(rt, alloc, paths, &mut streams) == answer.status
+        && streams.out.is_met()
+        && streams.faults.is_met()
 }
 
 /// The same where there is a file of these bytes at one path meanwhile.
@@ -48,20 +72,22 @@ fn serves_with<R: Files + Threads + Wait + Sync>(
     alloc: Global,
     (path, bytes): (&str, &[u8]),
     paths: &[&str],
-    status: u8,
-    out: Expecting<'_>,
-    fault: &str,
+    answer: Answer<'_>,
 ) -> bool {
     let is_there = fs::write(rt, path, bytes).is_ok();
-    let is_served = serves(rt, alloc, paths, status, out, fault);
+    let is_served = serves(rt, alloc, paths, answer);
     fs::remove_file(rt, path).is_ok() && is_there && is_served
 }
 
 #[test]
 fn one_file(rt: HostRuntime) {
     let file = ("one.grub", FIRST.as_bytes());
-    let out = Expecting::new(FIRST_REPORT.as_bytes());
-    assert!(rt; serves_with(&rt, rt.alloc(), file, &["one.grub"], 0, out, ""));
+    let answer = Answer {
+        status: 0,
+        out: Expecting::new(FIRST_REPORT.as_bytes()),
+        fault: "",
+    };
+    assert!(rt; serves_with(&rt, rt.alloc(), file, &["one.grub"], answer));
 }
 
 /// Files that have a fault, and its line.
@@ -108,9 +134,7 @@ fn tells_fault<R: Files + Threads + Wait + Sync>(
         alloc,
         file,
         &["a file.grub"],
-        STATUS_FILE,
-        Expecting::new(b""),
-        fault,
+        refusal(STATUS_FILE, fault),
     )
 }
 
@@ -132,7 +156,7 @@ fn serves_many<R: Files + Threads + Wait + Sync>(
     let file = ("empty.grub", b"grub 1\nqueue 1 0\n".as_slice());
     let mut words = ["empty.grub"; 65];
     words[64] = last;
-    serves_with(rt, alloc, file, &words, status, Expecting::new(b""), fault)
+    serves_with(rt, alloc, file, &words, refusal(status, fault))
 }
 
 #[test]
@@ -158,9 +182,7 @@ fn serves_long<R: Files + Threads + Wait + Sync>(
             alloc,
             ("long.grub", &text),
             paths,
-            status,
-            Expecting::new(b""),
-            fault,
+            refusal(status, fault),
         ),
         Err(_) => false,
     }
@@ -193,25 +215,20 @@ fn broken_read_is_told<R: Threads + Wait + Sync>(rt: &R, alloc: Global) -> bool 
         open: open_any,
         read: no_read,
     };
-    let mut out = Expecting::new(b"");
-    let mut faults = Expecting::new(b"grubrun: x: 46 ReadFault\n");
-    serve_files(rt, alloc, 8, 64, &source, &["x"], &mut out, &mut faults) == STATUS_SYSTEM
-        && out.is_met()
-        && faults.is_met()
+    let mut streams = Streams {
+        out: Expecting::new(b""),
+        faults: Expecting::new(b"grubrun: x: 46 ReadFault\n"),
+    };
+    serve_files(rt, alloc, ATTEMPTS, &source, &["x"], &mut streams) == STATUS_SYSTEM
+        && streams.out.is_met()
+        && streams.faults.is_met()
 }
 
 /// Whether a folder, which opens too, is answered as unreadable.
 fn folder_is_told<R: Files + Threads + Wait + Sync>(rt: &R, alloc: Global) -> bool {
     let line = "grubrun: folder: 46 ReadFault\n";
     let is_there = fs::create_dir(rt, "folder").is_ok();
-    let is_told = serves(
-        rt,
-        alloc,
-        &["folder"],
-        STATUS_SYSTEM,
-        Expecting::new(b""),
-        line,
-    );
+    let is_told = serves(rt, alloc, &["folder"], refusal(STATUS_SYSTEM, line));
     fs::remove_dir(rt, "folder").is_ok() && is_there && is_told
 }
 
@@ -250,20 +267,9 @@ fn the_first_unread_file_is_told(rt: HostRuntime) {
 #[test]
 fn closed_output(rt: HostRuntime) {
     let file = ("closed.grub", FIRST.as_bytes());
-    let mut out = Expecting::new(b"");
-    out.calls = 0;
-    let line = "grubrun: 45 WriteFault\n";
-    assert!(rt;
-        serves_with(
-            &rt,
-            rt.alloc(),
-            file,
-            &["closed.grub"],
-            STATUS_SYSTEM,
-            out,
-            line
-        )
-    );
+    let mut answer = refusal(STATUS_SYSTEM, "grubrun: 45 WriteFault\n");
+    answer.out.calls = 0;
+    assert!(rt; serves_with(&rt, rt.alloc(), file, &["closed.grub"], answer));
 }
 
 /// The faults of refused memory. A refused start of a thread may be answered as such.
@@ -278,11 +284,16 @@ const REFUSALS: [&[u8]; 5] = [
 /// Whether the program answers the first file as with ample memory, or with status 3 and the line of a refusal. True too
 /// where the room for its faults is refused.
 fn reports_or_refuses<R: Files + Threads + Wait + Sync>(rt: &R, alloc: Global, path: &str) -> bool {
-    let Ok(mut faults) = Vec::with_capacity(alloc, 1000) else {
+    let Ok(faults) = Vec::with_capacity(alloc, 1000) else {
         return true;
     };
-    let mut out = Expecting::new(FIRST_REPORT.as_bytes());
-    match served(rt, alloc, &[path], &mut out, &mut faults) {
+    let mut streams = Streams {
+        out: Expecting::new(FIRST_REPORT.as_bytes()),
+        faults,
+    };
+    let status = served(rt, alloc, &[path], &mut streams);
+    let Streams { out, faults } = streams;
+    match status {
         0 => out.is_met() && faults.is_empty(),
         3 => out.is_untouched(FIRST_REPORT) && REFUSALS.contains(&faults.as_slice()),
         _ => false,

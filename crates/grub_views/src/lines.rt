@@ -7,6 +7,7 @@ ghost use Rattle.text_bytes.specs.Writing.{HandsOn, HandsPart};
 ghost use Rattle.grub_views.specs.Lines.{HandsOnTimeline, HandsPartOfTimeline, close_line, close_lines, told_line};
 
 use crate::beside::play_beside;
+use crate::line_room::LineRoom;
 use crate::rest::play_out;
 use grub_book::Reading;
 use grub_plan::{Plan, append_answer, append_ask, append_reading};
@@ -14,16 +15,15 @@ use grub_timeline::{Playing, ToldEntry};
 use std::io;
 use std::io::Write;
 use std::thread::Threads;
-use text_bytes::{Blocks, LINE_MAX, LineOf, append, append_number, make_room, write_lines};
+use text_bytes::{LINE_MAX, LineOf, append, append_number, make_room};
 
-/// Plays what is left of a time line of the plan, of which nothing was played yet, and puts its text into the buffer, which is
-/// written as often as it is full: a line for each entry, and then the closing reading of each runqueue. Entries wait for their
+/// Plays what is left of a time line of the plan, of which nothing was played yet, and puts its text into the room's buffer, which
+/// is written as often as it is full: a line for each entry, and then the closing reading of each runqueue. Entries wait for their
 /// lines in the vector, which has room for those of a line, while the next ones are played. It takes no memory.
 /// After a failing write, or one that took nothing, a beginning of the buffer's bytes and the text was written.
 pub fn write_timeline<R: Threads + Sync, W: Write>(
     rt: &R,
-    blocks: &mut Blocks,
-    buffer: &mut Vec<u8>,
+    room: &mut LineRoom,
     out: &mut W,
     plan: &Plan,
     latest: &mut Vec<ToldEntry>,
@@ -32,24 +32,23 @@ pub fn write_timeline<R: Threads + Sync, W: Write>(
     requires plan { playing.plan ≡ plan.now }
     requires nothing { playing.told ≡ [] }
     requires latest { length plan.now.setup.tasks + 3 ≤ vec_capacity latest.old }
-    requires room { LINE_MAX ≤ vec_capacity buffer.old }
+    requires room { LINE_MAX ≤ vec_capacity room.old.buffer }
     ensures whole { OnOk result (HandsOnTimeline plan.now (W.contents out.old)
-        (W.contents out.new) buffer.old.items buffer.new.items) }
-    ensures part { OnErr result
-        (HandsPartOfTimeline plan.now (W.contents out.old) (W.contents out.new) buffer.old.items) }
-    ensures room { LINE_MAX ≤ vec_capacity buffer.new }
+        (W.contents out.new) room.old.buffer.items room.new.buffer.items) }
+    ensures part { OnErr result (HandsPartOfTimeline plan.now
+        (W.contents out.old) (W.contents out.new) room.old.buffer.items) }
+    ensures room { LINE_MAX ≤ vec_capacity room.new.buffer }
 {
-    let written = write_played(rt, blocks, buffer, out, plan, latest, &mut playing);
+    let written = write_played(rt, room, out, plan, latest, &mut playing);
     let closing = playing.close();
     written?;
-    write_closing(buffer, out, &closing)
+    write_closing(&mut room.buffer, out, &closing)
 }
 
 /// Plays all lines, and puts a line for each entry into the buffer.
 fn write_played<R: Threads + Sync, W: Write>(
     rt: &R,
-    blocks: &mut Blocks,
-    buffer: &mut Vec<u8>,
+    room: &mut LineRoom,
     out: &mut W,
     plan: &Plan,
     latest: &mut Vec<ToldEntry>,
@@ -58,14 +57,15 @@ fn write_played<R: Threads + Sync, W: Write>(
     requires plan { playing.old.plan ≡ plan.now }
     requires nothing { playing.old.told ≡ [] }
     requires latest { length plan.now.setup.tasks + 3 ≤ vec_capacity latest.old }
-    requires room { LINE_MAX ≤ vec_capacity buffer.old }
+    requires room { LINE_MAX ≤ vec_capacity room.old.buffer }
     ensures plan { playing.new.plan ≡ plan.now }
     ensures over { playing.new.left ≡ 0 }
-    ensures whole { OnOk result (HandsOn (W.contents out.old) (W.contents out.new) buffer.old.items
-        (flat_map (told_line plan.now.names) playing.new.told) buffer.new.items) }
+    ensures whole { OnOk result (HandsOn (W.contents out.old)
+        (W.contents out.new) room.old.buffer.items
+        (flat_map (told_line plan.now.names) playing.new.told) room.new.buffer.items) }
     ensures part { OnErr result (HandsPart (W.contents out.old) (W.contents out.new)
-        buffer.old.items (flat_map (told_line plan.now.names) playing.new.told)) }
-    ensures room { LINE_MAX ≤ vec_capacity buffer.new }
+        room.old.buffer.items (flat_map (told_line plan.now.names) playing.new.told)) }
+    ensures room { LINE_MAX ≤ vec_capacity room.new.buffer }
 {
     let lines = PlanLines { plan };
     let mut more = playing.play_on();
@@ -75,15 +75,15 @@ fn write_played<R: Threads + Sync, W: Write>(
         let mut write = || -> io::Result<()>
             requires fits { All
                 (λ x. IsAskOf (length lines.plan.now.setup.tasks) x.entry.ask) told.now }
-            requires room { LINE_MAX ≤ vec_capacity buffer.now }
+            requires room { LINE_MAX ≤ vec_capacity room.now.buffer }
             ensures whole { OnOk result (HandsOn (W.contents out.entry.now)
-                (W.contents out.exit.now) buffer.entry.now.items (flat_map
-                (told_line lines.entry.plan.now.names) told.entry.now) buffer.exit.now.items) }
+                (W.contents out.exit.now) room.entry.now.buffer.items (flat_map
+                (told_line lines.entry.plan.now.names) told.entry.now) room.exit.now.buffer.items) }
             ensures part { OnErr result (HandsPart (W.contents out.entry.now)
-                (W.contents out.exit.now) buffer.entry.now.items
+                (W.contents out.exit.now) room.entry.now.buffer.items
                 (flat_map (told_line lines.entry.plan.now.names) told.entry.now)) }
-            ensures room { LINE_MAX ≤ vec_capacity buffer.exit.now }
-        { write_lines(rt, blocks, buffer, out, told, &lines) };
+            ensures room { LINE_MAX ≤ vec_capacity room.exit.now.buffer }
+        { room.write_lines(rt, out, told, &lines) };
         let (goes_on, written) = play_beside(rt, playing, told.len(), &mut write);
         if let Err(fault) = written {
             play_out(playing);

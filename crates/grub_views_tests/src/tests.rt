@@ -8,14 +8,14 @@ use grub_picture::*;
 use grub_plan::Plan;
 use grub_steps::*;
 use grub_summary::*;
-use grub_timeline::{Playing, ToldEntry, play};
+use grub_timeline::{Playing, play};
 use grub_trace::read_files;
 use grub_views::*;
 use grub_worked_examples::{documentation, moving};
 use std::alloc::Global;
 use std::process::Abort;
 use std::thread::Threads;
-use text_bytes::{Blocks, LINE_MAX, line_buffer, write_buffer};
+use text_bytes::{LINE_MAX, write_buffer};
 
 #[derive(Clone, Copy)]
 enum View {
@@ -88,15 +88,15 @@ fn written<R: Threads + Sync>(
     plan: &Plan,
     view: View,
 ) -> Result<Vec<u8>, ViewFault> {
-    let Ok(mut buffer) = line_buffer(alloc) else {
+    let Ok(mut room) = LineRoom::new(alloc) else {
         return Err(ViewFault::NoMemory);
     };
     let mut text = Vec::new(alloc);
     let is_played = match view {
-        View::Lines => play_lines(rt, alloc, plan, &mut buffer, &mut text),
-        _ => play_steps(rt, alloc, plan, &mut buffer, &mut text),
+        View::Lines => play_lines(rt, alloc, plan, &mut room, &mut text),
+        _ => play_steps(rt, alloc, plan, &mut room, &mut text),
     };
-    if is_played && write_buffer(&mut buffer, &mut text).is_ok() {
+    if is_played && write_buffer(&mut room.buffer, &mut text).is_ok() {
         Ok(text)
     } else {
         Err(ViewFault::NoMemory)
@@ -108,21 +108,41 @@ fn play_lines<R: Threads + Sync>(
     rt: &R,
     alloc: Global,
     plan: &Plan,
-    buffer: &mut Vec<u8>,
+    room: &mut LineRoom,
     text: &mut Vec<u8>,
 ) -> bool
-    requires { LINE_MAX ≤ vec_capacity buffer.old }
+    requires { LINE_MAX ≤ vec_capacity room.old.buffer }
 {
-    let Ok(mut blocks) = Blocks::new(alloc) else {
-        return false;
-    };
     let Ok(playing) = Playing::new(alloc, plan) else {
         return false;
     };
     let Ok(mut latest) = Vec::with_capacity(alloc, playing.most()) else {
         return false;
     };
-    write_timeline(rt, &mut blocks, buffer, text, plan, &mut latest, playing).is_ok()
+    write_timeline(rt, room, text, plan, &mut latest, playing).is_ok()
+}
+
+/// What makes the steps of a time line of the plan of which so many entries are played at a time.
+fn maker_of<'a>(alloc: Global, plan: &'a Plan, most: usize) -> Option<StepMaker<'a>>
+    ensures setup { IfSome result (λ x. x.book.setup ≡ plan.now.setup) }
+    ensures book { IfSome result (λ x. x.book.records ≡ opening_book plan.now.setup) }
+    ensures room { IfSome result (λ x. (most ≤ vec_capacity x.latest)
+        × (vec_capacity x.latest ≤ vec_capacity x.steps)) }
+{
+    let Ok(book) = Book::new(alloc, plan.setup()) else {
+        return None;
+    };
+    let Ok(latest) = Vec::with_capacity(alloc, most) else {
+        return None;
+    };
+    let Ok(steps) = Vec::with_capacity(alloc, latest.capacity()) else {
+        return None;
+    };
+    Some(StepMaker {
+        book,
+        latest,
+        steps,
+    })
 }
 
 /// Plays the steps of the time line, and says whether there was memory.
@@ -130,66 +150,18 @@ fn play_steps<R: Threads + Sync>(
     rt: &R,
     alloc: Global,
     plan: &Plan,
-    buffer: &mut Vec<u8>,
+    room: &mut LineRoom,
     text: &mut Vec<u8>,
 ) -> bool
-    requires { LINE_MAX ≤ vec_capacity buffer.old }
-{
-    let Ok(mut blocks) = Blocks::new(alloc) else {
-        return false;
-    };
-    match Book::new(alloc, plan.setup()) {
-        Ok(mut book) => replay_steps(rt, alloc, plan, &mut blocks, buffer, text, &mut book),
-        Err(_) => false,
-    }
-}
-
-/// Room for the entries of so many, and for their steps.
-fn room_for(alloc: Global, most: usize) -> Option<(Vec<ToldEntry>, Vec<Step>)>
-    ensures { IfSome result
-        (λ room. (most ≤ vec_capacity room.0) × (vec_capacity room.0 ≤ vec_capacity room.1)) }
-{
-    let Ok(latest) = Vec::with_capacity(alloc, most) else {
-        return None;
-    };
-    match Vec::with_capacity(alloc, latest.capacity()) {
-        Ok(steps) => Some((latest, steps)),
-        Err(_) => None,
-    }
-}
-
-/// The same with a book of which nothing was asked yet.
-fn replay_steps<R: Threads + Sync>(
-    rt: &R,
-    alloc: Global,
-    plan: &Plan,
-    blocks: &mut Blocks,
-    buffer: &mut Vec<u8>,
-    text: &mut Vec<u8>,
-    book: &mut Book<'_>,
-) -> bool
-    requires setup { book.old.setup ≡ plan.now.setup }
-    requires book { book.old.records ≡ opening_book plan.now.setup }
-    requires room { LINE_MAX ≤ vec_capacity buffer.old }
+    requires { LINE_MAX ≤ vec_capacity room.old.buffer }
 {
     let Ok(playing) = Playing::new(alloc, plan) else {
         return false;
     };
-    let Some((mut latest, mut steps)) = room_for(alloc, playing.most()) else {
+    let Some(mut maker) = maker_of(alloc, plan, playing.most()) else {
         return false;
     };
-    write_steps(
-        rt,
-        blocks,
-        buffer,
-        text,
-        plan,
-        book,
-        &mut latest,
-        &mut steps,
-        playing,
-    )
-    .is_ok()
+    write_steps(rt, room, text, plan, &mut maker, playing).is_ok()
 }
 
 /// Whether a view is this text, or memory was refused.

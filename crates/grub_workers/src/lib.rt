@@ -2,6 +2,7 @@
 #![tactic(auto)]
 
 mod asking;
+mod attempts;
 mod desk;
 mod due;
 mod gate;
@@ -11,5 +12,6 @@ mod script;
 mod work;
 mod worker;
 
+pub use attempts::Attempts;
 pub use gate::{Gate, NoGate};
 pub use outcome::{Outcome, RunFault, run};

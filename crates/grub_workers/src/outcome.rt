@@ -4,8 +4,9 @@ ghost use Rattle.grub_workers.specs.Apart.{AreOwn};
 ghost use Rattle.grub_plan.specs.Answers.{IsAnswered};
 ghost use Rattle.grub_workers.specs.Runs.{AllAsksOf, EachEntry, IsNoLostCharge, IsOnlyRun, IsRun};
 
+use crate::attempts::Attempts;
 use crate::gate::Gate;
-use crate::scoped::{Done, run_scoped};
+use crate::scoped::{Done, SharedWork, run_scoped};
 use grub_book::Reading;
 use grub_plan::{Plan, Report};
 use grub_table::Shared;
@@ -77,7 +78,13 @@ pub fn run<R: Threads + Wait, G: Gate>(
     let Ok((shared, passes)) = Shared::open(alloc, plan.setup(), plan.files()) else {
         return Err(RunFault::NoMemory);
     };
-    let done = run_scoped(rt, alloc, &shared, plan, passes, tries, rounds, gate)?;
+    let work = SharedWork {
+        table: &shared,
+        plan,
+        attempts: Attempts { tries, rounds },
+        gate,
+    };
+    let done = run_scoped(rt, alloc, work, passes)?;
     let Done { passes, reports } = done;
     match shared.close(alloc, passes) {
         Ok(closing) => Ok(Outcome { reports, closing }),

@@ -5,6 +5,7 @@ ghost use Rattle.grub_plan.specs.Limits.{ScriptFits};
 ghost use Rattle.grub_workers.specs.inside.Working.{IsWorked};
 ghost use Rattle.grub_workers.specs.inside.Handles.{AllFit, AllWorked, Handle, HasRoom, IsOf};
 
+use crate::attempts::Attempts;
 use crate::desk::Desk;
 use crate::gate::Gate;
 use crate::outcome::RunFault;
@@ -32,24 +33,35 @@ pub struct Done {
     pub reports: Vec<Report>,
 }
 
+/// What the workers of a run share: the table, the plan whose scripts they ask, how often they try an ask, and the gate.
+#[derive(Drop)]
+pub struct SharedWork<'a, G> {
+    pub table: &'a Shared,
+    pub plan: &'a Plan,
+    pub attempts: Attempts,
+    pub gate: &'a G,
+}
+
 /// A worker for each file, all at once. All that were started are joined.
 pub(crate) fn run_scoped<R: Threads + Wait, G: Gate>(
     rt: &R,
     alloc: Global,
-    table: &Shared,
-    plan: &Plan,
+    work: SharedWork<'_, G>,
     passes: Vec<Pass>,
-    tries: u8,
-    rounds: u16,
-    gate: &G,
 ) -> Result<Done, RunFault>
-    requires len { vec_len passes ≡ length plan.now.scripts }
-    requires fresh { AreNew table.now passes.items }
-    requires fits { AllFit table.now plan.now }
-    requires rounds { 1 ≤ rounds }
-    ensures { IfOk result
-        (λ d. AllWorked table.now tries plan.now.scripts d.passes.items d.reports.items) }
+    requires len { vec_len passes ≡ length work.plan.now.scripts }
+    requires fresh { AreNew work.table.now passes.items }
+    requires fits { AllFit work.table.now work.plan.now }
+    requires rounds { 1 ≤ work.attempts.rounds }
+    ensures { IfOk result (λ d. AllWorked work.entry.table.now work.entry.attempts.tries work.entry.plan.now.scripts
+        d.passes.items d.reports.items) }
 {
+    let SharedWork {
+        table,
+        plan,
+        attempts: Attempts { tries, rounds },
+        gate,
+    } = work;
     let count = passes.len();
     let Ok(done) = room_for(alloc, count) else {
         return Err(RunFault::NoMemory);
@@ -64,7 +76,13 @@ pub(crate) fn run_scoped<R: Threads + Wait, G: Gate>(
             ensures { IfOk result (λ d. AllWorked table.entry.now tries plan.entry.now.scripts
                 d.passes.items d.reports.items) }
         {
-            let started = start_all(scope, alloc, table, plan, passes, tries, rounds, gate);
+            let work = SharedWork {
+                table,
+                plan,
+                attempts: Attempts { tries, rounds },
+                gate,
+            };
+            let started = start_all(scope, alloc, work, passes);
             join_all(rt, started, done, table, plan, tries)
         },
     )
@@ -74,23 +92,26 @@ pub(crate) fn run_scoped<R: Threads + Wait, G: Gate>(
 fn start_all<'s, 'e, G: Gate>(
     scope: &'s Scope<'s, &'e ()>,
     alloc: Global,
-    table: &'s Shared,
-    plan: &'s Plan,
+    work: SharedWork<'s, G>,
     passes: Vec<Pass>,
-    tries: u8,
-    rounds: u16,
-    gate: &'s G,
 ) -> StartedWorkers<'s>
-    requires len { vec_len passes ≡ length plan.now.scripts }
-    requires fresh { AreNew table.now passes.items }
-    requires fits { AllFit table.now plan.now }
-    requires rounds { 1 ≤ rounds }
-    ensures len { vec_len result.handles ≤ length plan.now.scripts }
-    ensures whole { result.refusal ≡ None → vec_len result.handles ≡ length plan.now.scripts }
+    requires len { vec_len passes ≡ length work.plan.now.scripts }
+    requires fresh { AreNew work.table.now passes.items }
+    requires fits { AllFit work.table.now work.plan.now }
+    requires rounds { 1 ≤ work.attempts.rounds }
+    ensures len { vec_len result.handles ≤ length work.entry.plan.now.scripts }
+    ensures whole { result.refusal ≡ None
+        → vec_len result.handles ≡ length work.entry.plan.now.scripts }
     ensures each { (i : ℕ) (d : Handle) → i < vec_len result.handles
-        → IsOf table.now tries plan.now.scripts i
+        → IsOf work.entry.table.now work.entry.attempts.tries work.entry.plan.now.scripts i
         (slice_index_or result.handles.items i d).promise }
 {
+    let SharedWork {
+        table,
+        plan,
+        attempts: Attempts { tries, rounds },
+        gate,
+    } = work;
     let mut refusal = None;
     let Ok(mut handles) = Vec::with_capacity(alloc, passes.len()) else {
         return StartedWorkers {

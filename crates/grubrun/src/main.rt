@@ -5,6 +5,7 @@ mod serve;
 mod view;
 
 use crate::serve::{serve, serve_no_words};
+use grub_run::Streams;
 use std::io::Read;
 use std::process::ExitCode;
 use std::{env, fs};
@@ -16,11 +17,13 @@ fn main(rt: HostRuntime) -> ExitCode {
         open: |path: &str| fs::open(&rt, path),
         read: |file: &mut fs::File, room: &mut [u8]| file.read(room),
     };
-    let mut out = rt.stdout();
-    let mut faults = rt.stderr();
+    let mut streams = Streams {
+        out: rt.stdout(),
+        faults: rt.stderr(),
+    };
     let status = match env::args(&rt).and_then(|args| Ok(args.collect::<Vec<String>>(alloc)?)) {
-        Ok(words) => serve(&rt, alloc, &words, &source, &mut out, &mut faults),
-        Err(error) => serve_no_words(&error, &mut faults),
+        Ok(words) => serve(&rt, alloc, &words, &source, &mut streams),
+        Err(error) => serve_no_words(&error, &mut streams.faults),
     };
     ExitCode::from(status)
 }

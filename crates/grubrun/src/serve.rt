@@ -19,7 +19,8 @@ use crate::view::{Wanted, wanted_by};
 use clap::Error;
 use clap::error::ErrorKind;
 use grub_run::{
-    GrubFault, ProgramFault, STATUS_FILE, STATUS_SYSTEM, STATUS_USAGE, serve_files, serve_view,
+    Attempts, GrubFault, ProgramFault, STATUS_FILE, STATUS_SYSTEM, STATUS_USAGE, Streams,
+    serve_files, serve_view,
 };
 use grubrun_command::{HELP, Options, VERSION, options_of};
 use std::alloc::Global;
@@ -31,7 +32,7 @@ use std::thread::Threads;
 use text_bytes::Source;
 
 /// Runs the program on its words, the first of which is its name, and gives its status. Files are opened and read by
-/// `source`. Reports and the help go to `out`, and the line of a fault to `faults`.
+/// `source`. Reports and the help go to `out` of the streams, and the line of a fault to `faults`.
 pub(crate) fn serve<
     R: Threads + Wait + Sync,
     D: Drop,
@@ -39,12 +40,13 @@ pub(crate) fn serve<
     N: Fn(&mut D, &mut [u8]) -> io::Result<usize>,
     W: Write,
     E: Write,
->(rt: &R, alloc: Global, words: &[String], source: &Source<O, N>, out: &mut W, faults: &mut E) -> u8
+>(rt: &R, alloc: Global, words: &[String], source: &Source<O, N>, streams: &mut Streams<W, E>) -> u8
     requires open { O.IsAlwaysCallable source.now.open }
     requires read { N.IsAlwaysCallable source.now.read }
     ensures status { result ≤ 3 }
     // On the status of a file's fault, and of a wrong command line, nothing was printed.
-    ensures nothing { (result ≡ STATUS_FILE) ⊎ (result ≡ STATUS_USAGE) → out.new ≡ out.old }
+    ensures nothing { (result ≡ STATUS_FILE) ⊎ (result ≡ STATUS_USAGE)
+        → streams.new.out ≡ streams.old.out }
     // The status of a file's fault comes only where, by what the calls of `source` may answer, a file that the words name is at fault.
     ensures file { result ≡ STATUS_FILE
         → HasFileFault O.Fn N.Fn source.now (files_named (texts_of words.now)) }
@@ -53,20 +55,21 @@ pub(crate) fn serve<
         ⊎ AsksFor O.Fn N.Fn source.now HasNoSpan (texts_of words.now) }
     ensures done { result ≡ 0
         → IsRefused (texts_of words.now) ⊎ AsksFor O.Fn N.Fn source.now (λ wanted tries.
-        Writes (IsWanted wanted tries) (W.contents out.old) (W.contents out.new))
+        Writes (IsWanted wanted tries) (W.contents streams.old.out) (W.contents streams.new.out))
         (texts_of words.now) }
     // Where the system failed on right words, nothing or a beginning of this was printed.
     ensures failed { result ≡ STATUS_SYSTEM → IsRefused (texts_of words.now)
-        ⊎ (out.new ≡ out.old) ⊎ AsksFor O.Fn N.Fn source.now (λ wanted tries.
-        Begins (IsWanted wanted tries) (W.contents out.old) (W.contents out.new))
+        ⊎ (streams.new.out ≡ streams.old.out) ⊎ AsksFor O.Fn N.Fn source.now (λ wanted tries.
+        Begins (IsWanted wanted tries) (W.contents streams.old.out) (W.contents streams.new.out))
         (texts_of words.now) }
     // Of the words that are refused, only those that ask for the help or the version are done, and it was printed.
     ensures help { IsRefused (texts_of words.now) → result ≡ 0
-        → PrintsAsked (texts_of words.now) (W.contents out.old) (W.contents out.new) }
+        → PrintsAsked (texts_of words.now) (W.contents streams.old.out)
+        (W.contents streams.new.out) }
 {
     match read_words(alloc, words) {
-        Ok((options, wanted)) => serve_options(rt, alloc, &options, wanted, source, out, faults),
-        Err(error) => serve_error(&error, out, faults),
+        Ok((options, wanted)) => serve_options(rt, alloc, &options, wanted, source, streams),
+        Err(error) => serve_error(&error, streams),
     }
 }
 
@@ -97,36 +100,35 @@ fn serve_options<
     options: &Options<'_>,
     wanted: Wanted,
     source: &Source<O, N>,
-    out: &mut W,
-    faults: &mut E,
+    streams: &mut Streams<W, E>,
 ) -> u8
     requires open { O.IsAlwaysCallable source.now.open }
     requires read { N.IsAlwaysCallable source.now.read }
-    ensures { IsServed O.Fn N.Fn source.now W.contents out.old out.new wanted options.now.tries
-        (names_among (rows_of (found_of options.now.matches))) result }
+    ensures { IsServed O.Fn N.Fn source.now W.contents streams.old.out streams.new.out
+        wanted options.now.tries (names_among (rows_of (found_of options.now.matches))) result }
 {
     let paths = options.matches.get_strs("FILE").unwrap_or(&[]);
     match wanted {
-        Wanted::Reports => serve_files(
-            rt,
-            alloc,
-            options.tries,
-            options.rounds,
-            source,
-            paths,
-            out,
-            faults,
-        ),
-        Wanted::View(view) => serve_view(rt, alloc, view, source, paths, out, faults),
+        Wanted::Reports => {
+            let attempts = Attempts {
+                tries: options.tries,
+                rounds: options.rounds,
+            };
+            serve_files(rt, alloc, attempts, source, paths, streams)
+        }
+        Wanted::View(view) => serve_view(rt, alloc, view, source, paths, streams),
         Wanted::NoView => mistake(
             "the views are 'timeline', 'steps', 'summary' and 'picture'",
-            faults,
+            &mut streams.faults,
         ),
         Wanted::NoPicture => mistake(
             "'--from' and '--to' are the span of '--view picture'",
-            faults,
+            &mut streams.faults,
         ),
-        Wanted::EmptySpan { from, to } => mistake(ProgramFault::EmptySpan { from, to }, faults),
+        Wanted::EmptySpan { from, to } => mistake(
+            ProgramFault::EmptySpan { from, to },
+            &mut streams.faults,
+        ),
     }
 }
 
@@ -139,10 +141,12 @@ fn mistake<T: Display + Copy, E: Write>(text: T, faults: &mut E) -> u8
 }
 
 /// Prints a text that the words ask for.
-fn show<W: Write, E: Write>(text: &str, out: &mut W, faults: &mut E) -> u8
+fn show<W: Write, E: Write>(text: &str, streams: &mut Streams<W, E>) -> u8
     ensures status { (result ≡ 0) ⊎ (result ≡ STATUS_SYSTEM) }
-    ensures shown { result ≡ 0 → Appends (W.contents out.old) (W.contents out.new) text.now }
+    ensures shown { result ≡ 0
+        → Appends (W.contents streams.old.out) (W.contents streams.new.out) text.now }
 {
+    let Streams { out, faults } = streams;
     if out.write_all(text.as_bytes()).is_err() || out.flush().is_err() {
         let _ = writeln!(faults, "grubrun: {}", GrubFault::WriteFault);
         return STATUS_SYSTEM;
@@ -151,25 +155,26 @@ fn show<W: Write, E: Write>(text: &str, out: &mut W, faults: &mut E) -> u8
 }
 
 /// The text of the command line's fault, or the text that the words ask for.
-fn serve_error<W: Write, E: Write>(error: &Error, out: &mut W, faults: &mut E) -> u8
+fn serve_error<W: Write, E: Write>(error: &Error, streams: &mut Streams<W, E>) -> u8
     ensures memory { kind_of error.now ≡ kinds.OutOfMemory
-        → (result ≡ STATUS_SYSTEM) × (out.new ≡ out.old) }
+        → (result ≡ STATUS_SYSTEM) × (streams.new.out ≡ streams.old.out) }
     ensures shown { result ≡ 0
-        → PrintsKind (kind_of error.now) (W.contents out.old) (W.contents out.new) }
+        → PrintsKind (kind_of error.now) (W.contents streams.old.out)
+        (W.contents streams.new.out) }
     ensures status { (result ≡ 0) ⊎ (result ≡ STATUS_USAGE) ⊎ (result ≡ STATUS_SYSTEM) }
-    ensures nothing { result ≡ STATUS_USAGE → out.new ≡ out.old }
+    ensures nothing { result ≡ STATUS_USAGE → streams.new.out ≡ streams.old.out }
     ensures system { result ≡ STATUS_SYSTEM → (kind_of error.now ≡ kinds.OutOfMemory)
         ⊎ (kind_of error.now ≡ kinds.DisplayHelp) ⊎ (kind_of error.now ≡ kinds.DisplayVersion) }
 {
     match error.kind() {
         ErrorKind::OutOfMemory => {
-            let _ = writeln!(faults, "grubrun: {}", ProgramFault::NoMemory);
+            let _ = writeln!(streams.faults, "grubrun: {}", ProgramFault::NoMemory);
             STATUS_SYSTEM
         }
-        ErrorKind::DisplayHelp => show(HELP, out, faults),
-        ErrorKind::DisplayVersion => show(VERSION, out, faults),
+        ErrorKind::DisplayHelp => show(HELP, streams),
+        ErrorKind::DisplayVersion => show(VERSION, streams),
         _ => {
-            let _ = write!(faults, "{error}");
+            let _ = write!(streams.faults, "{error}");
             STATUS_USAGE
         }
     }

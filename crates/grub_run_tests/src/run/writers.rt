@@ -1,6 +1,6 @@
 //! Writers that fail, and writers that take all.
 
-use super::ends;
+use super::{ENOUGH, ends};
 use crate::expects::expect_at;
 use crate::writer::{Expecting, Then};
 use grub_run::GrubFault;
@@ -22,7 +22,7 @@ fn ends_in<R: Threads + Wait + Sync>(
     out.each = each;
     out.calls = calls;
     out.then = then;
-    ends(rt, alloc, &[documentation::FILE], 8, 64, out, end)
+    ends(rt, alloc, &[documentation::FILE], ENOUGH, out, end)
 }
 
 /// Expects that a writer which goes on so after any number of calls, of 7 bytes each, fails when it has taken as much.

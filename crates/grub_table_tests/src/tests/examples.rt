@@ -2,8 +2,8 @@
 ghost use Rattle.grub_table.specs.Calls.{IsPassOf, IsClaimOf};
 
 use crate::tests::fixtures::{
-    A, B, Got, ask_all, close_both, expect, keep, look, make, one_pass, refuse_one, setup_of, take,
-    tells, two_passes,
+    A, B, Got, ask, ask_all, close_both, expect, keep, look, make, one_pass, refuse_one, setup_of,
+    take, tells, two_passes,
 };
 use grub_book::{Op, Reading, Reply, Setup};
 use grub_table::{Claim, CloseWhy, OpenFault, Pass, Shared, Sighting};
@@ -48,7 +48,8 @@ fn claim_on_one_task(rt: HostRuntime) {
     let wakes = Op::Wake { r: 0, m: 3 };
     let claim = take(&rt, &shared, first, A, wakes);
     let claimed = Got::Busy(Sighting::Claimed { word: 11 });
-    let second = expect(&rt, &shared, second, A, wakes, 1, claimed);
+    let asked = ask(&rt, &shared, second, A, wakes, 1);
+    let second = expect(&rt, asked, claimed);
     let mut second = ask_all(&rt, &shared, second, B, &[join(0, 3, 4, 11)]);
     let _ = make(&rt, &shared, claim, 1, Reply::Woken { q: 4, d: 11 });
     look(&rt, &shared, &mut second, 0, 1048576, 1048576);
@@ -244,8 +245,8 @@ fn retunes(rt: HostRuntime) {
 #[test]
 fn retunes_and_tries(rt: HostRuntime) {
     let (shared, pass) = one_pass(&rt, rt.alloc());
-    let retuned = Got::Replied(Reply::Retuned);
-    let pass = expect(&rt, &shared, pass, B, Op::Retune { q: 2, p: 8 }, 0, retuned);
+    let asked = ask(&rt, &shared, pass, B, Op::Retune { q: 2, p: 8 }, 0);
+    let pass = expect(&rt, asked, Got::Replied(Reply::Retuned));
     let asked = [join(0, 0, 4, 8), block(0, Reply::Asleep)];
     let mut pass = ask_all(&rt, &shared, pass, A, &asked);
     look(&rt, &shared, &mut pass, 0, 0, 524288);

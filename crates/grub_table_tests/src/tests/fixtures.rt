@@ -118,20 +118,11 @@ fn finished(shared: &Shared, claim: Claim, tries: u8) -> (Pass, Got)
     }
 }
 
-/// A call, and what becomes of it.
-pub(crate) fn expect(
-    rt: &impl Abort,
-    shared: &Shared,
-    pass: Pass,
-    t: u32,
-    op: Op,
-    tries: u8,
-    expected: Got,
-) -> Pass
-    requires { IsPassOf shared.now pass }
-    ensures { IsPassOf shared.now result }
+/// The pass of a call of which this became.
+pub(crate) fn expect(rt: &impl Abort, asked: (Pass, Got), expected: Got) -> Pass
+    ensures { result ≡ asked.0 }
 {
-    let (pass, got) = ask(rt, shared, pass, t, op, tries);
+    let (pass, got) = asked;
     assert_eq!(rt; got, expected);
     pass
 }
@@ -148,7 +139,8 @@ pub(crate) fn ask_all(
     ensures { IsPassOf shared.now result }
 {
     for (op, reply) in asked {
-        pass = expect(rt, shared, pass, t, *op, 1, Got::Replied(*reply));
+        let asked = ask(rt, shared, pass, t, *op, 1);
+        pass = expect(rt, asked, Got::Replied(*reply));
     }
     pass
 }

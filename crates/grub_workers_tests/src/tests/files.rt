@@ -3,7 +3,7 @@ ghost use Rattle.std.specs.Prelude.{◌≤◌};
 ghost use Rattle.grub_workers.specs.Runs.{AllAsksOf};
 
 use grub_trace::{Plan, TextFault, TraceFault, read_files, report_of};
-use grub_workers::{Gate, Outcome, RunFault, run};
+use grub_workers::{Attempts, Gate, Outcome, RunFault, run};
 use std::alloc::Global;
 use std::sync::Wait;
 use std::thread::Threads;
@@ -78,13 +78,12 @@ fn text_of<R: Threads + Wait, G: Gate>(
     rt: &R,
     alloc: Global,
     plan: &Plan,
-    tries: u8,
-    rounds: u16,
+    attempts: Attempts,
     gate: &G,
 ) -> Result<Vec<u8>, Refusal>
-    requires { 1 ≤ rounds }
+    requires { 1 ≤ attempts.rounds }
 {
-    let outcome = match run(rt, alloc, plan, tries, rounds, gate) {
+    let outcome = match run(rt, alloc, plan, attempts.tries, attempts.rounds, gate) {
         Ok(outcome) => outcome,
         Err(RunFault::NoMemory | RunFault::Spawn) => return Err(Refusal::Memory),
     };
@@ -100,14 +99,13 @@ pub(crate) fn run_files<R: Threads + Wait, G: Gate>(
     rt: &R,
     alloc: Global,
     all: &[&[u8]],
-    tries: u8,
-    rounds: u16,
+    attempts: Attempts,
     gate: &G,
 ) -> Result<Vec<u8>, Refusal>
-    requires { 1 ≤ rounds }
+    requires { 1 ≤ attempts.rounds }
 {
     match plan_of(alloc, all) {
-        Ok(plan) => text_of(rt, alloc, &plan, tries, rounds, gate),
+        Ok(plan) => text_of(rt, alloc, &plan, attempts, gate),
         Err(refusal) => Err(refusal),
     }
 }
@@ -117,14 +115,13 @@ pub(crate) fn writes<R: Threads + Wait, G: Gate>(
     rt: &R,
     alloc: Global,
     all: &[&[u8]],
-    tries: u8,
-    rounds: u16,
+    attempts: Attempts,
     gate: &G,
     text: &[u8],
 ) -> bool
-    requires { 1 ≤ rounds }
+    requires { 1 ≤ attempts.rounds }
 {
-    match run_files(rt, alloc, all, tries, rounds, gate) {
+    match run_files(rt, alloc, all, attempts, gate) {
         Ok(found) => found.as_slice() == text,
         Err(_) => false,
     }

@@ -1,16 +1,20 @@
 //! Memory that is refused, and the lines of the faults of a run.
 use super::files::{Refusal, run_files, writes};
 use super::singles::{DOCUMENTATION, DOCUMENTATION_REPORT, FIRST_FILE, FIRST_REPORT};
-use grub_workers::{NoGate, RunFault};
+use grub_workers::{Attempts, NoGate, RunFault};
 use std::alloc::Global;
 use std::sync::Wait;
 use std::thread::Threads;
 
 /// Whether a run of this file has this report, or one that comes after a refused one.
 fn writes_after_all<R: Threads + Wait>(rt: &R, alloc: Global, lines: &[u8], report: &[u8]) -> bool {
-    match run_files(rt, alloc, &[lines], 8, 64, &NoGate) {
+    let attempts = Attempts {
+        tries: 8,
+        rounds: 64,
+    };
+    match run_files(rt, alloc, &[lines], attempts, &NoGate) {
         Ok(text) => text.as_slice() == report,
-        Err(Refusal::Memory) => writes(rt, alloc, &[lines], 8, 64, &NoGate, report),
+        Err(Refusal::Memory) => writes(rt, alloc, &[lines], attempts, &NoGate, report),
         Err(Refusal::Fault) => false,
     }
 }

@@ -3,6 +3,7 @@ ghost use Rattle.std.specs.Prelude.{◌≤◌};
 
 use super::files::writes;
 use super::gates::{Hold, Holds};
+use grub_workers::Attempts;
 use std::alloc::Global;
 use std::sync::Wait;
 use std::thread::Threads;
@@ -34,8 +35,9 @@ fn writes_held<R: Threads + Wait>(
 ) -> bool
     requires { 1 ≤ rounds }
 {
+    let attempts = Attempts { tries: 1, rounds };
     let gate = Holds::new(holds);
-    writes(rt, alloc, files, 1, rounds, &gate, text) && gate.missed() == 0
+    writes(rt, alloc, files, attempts, &gate, text) && gate.missed() == 0
 }
 
 /// Whether both tasks join where one worker is held before its first call.

@@ -1,7 +1,7 @@
 //! One file alone.
 use super::files::writes;
 use super::gates::Count;
-use grub_workers::NoGate;
+use grub_workers::{Attempts, NoGate};
 use std::alloc::Global;
 use std::sync::Wait;
 use std::thread::Threads;
@@ -14,7 +14,20 @@ pub const FIRST_REPORT: &[u8] =
 
 #[test]
 fn the_first_file(rt: HostRuntime) {
-    assert!(rt; writes(&rt, rt.alloc(), &[FIRST_FILE], 8, 64, &NoGate, FIRST_REPORT));
+    let attempts = Attempts {
+        tries: 8,
+        rounds: 64,
+    };
+    assert!(rt;
+        writes(
+            &rt,
+            rt.alloc(),
+            &[FIRST_FILE],
+            attempts,
+            &NoGate,
+            FIRST_REPORT
+        )
+    );
 }
 
 const GIVEN_UP: &[u8] =
@@ -22,13 +35,21 @@ const GIVEN_UP: &[u8] =
 
 #[test]
 fn the_first_file_without_tries(rt: HostRuntime) {
-    assert!(rt; writes(&rt, rt.alloc(), &[FIRST_FILE], 0, 1, &NoGate, GIVEN_UP));
+    let attempts = Attempts {
+        tries: 0,
+        rounds: 1,
+    };
+    assert!(rt; writes(&rt, rt.alloc(), &[FIRST_FILE], attempts, &NoGate, GIVEN_UP));
 }
 
 /// Whether a run of this file in three rounds without tries has this text, and so many calls.
 fn counts<R: Threads + Wait>(rt: &R, alloc: Global, file: &[u8], text: &[u8], calls: u64) -> bool {
+    let attempts = Attempts {
+        tries: 0,
+        rounds: 3,
+    };
     let gate = Count::new();
-    writes(rt, alloc, &[file], 0, 3, &gate, text) && gate.counts() == (calls, calls, calls)
+    writes(rt, alloc, &[file], attempts, &gate, text) && gate.counts() == (calls, calls, calls)
 }
 
 #[test]
@@ -49,6 +70,10 @@ pub const DOCUMENTATION_REPORT: &[u8] =
 
 #[test]
 fn the_documentations_example(rt: HostRuntime) {
+    let attempts = Attempts {
+        tries: 4,
+        rounds: 100,
+    };
     let report = DOCUMENTATION_REPORT;
-    assert!(rt; writes(&rt, rt.alloc(), &[DOCUMENTATION], 4, 100, &NoGate, report));
+    assert!(rt; writes(&rt, rt.alloc(), &[DOCUMENTATION], attempts, &NoGate, report));
 }

@@ -28,7 +28,7 @@ returns-in_err-write_report-clause-part g c =
     let d = g.W.Write.contents c.write_report.new.out in
     let more = texts_before names c.args.reports.now c.args.closing.now c.loop-r.r x closing c.requires.one_each c.loop-r-test.true there same in
     on_err c.from_residual.result
-    (prefix_of a d (so_far ++ text) more.0 (texts_from names 0 c.args.reports.now c.args.closing.now) (part_after a b d [] so_far c.loop-r.buffer.items text c.loop-r.invariant.so_far c.in_err-write_report.ensures.part) more.1)
+    (prefix_of a d (so_far ++ text) more.0 (texts_from names 0 c.args.reports.now c.args.closing.now) (part_after a b d [] so_far c.loop-r.room.buffer.items text c.loop-r.invariant.so_far c.in_err-write_report.ensures.part) more.1)
 
 pub loop-r-preserved : goal.loop-r-preserved
 loop-r-preserved g c =
@@ -45,8 +45,8 @@ loop-r-preserved g c =
     let d = g.W.Write.contents c.write_report.new.out in
     record {
       room = c.in_ok-write_report.ensures.room;
-      so_far = subst (λ (t : List ℕ). HandsOn a d [] t c.write_report.new.buffer.items) (texts_next names c.args.reports.now c.args.closing.now c.loop-r.r x closing c.requires.one_each c.loop-r-test.true there same)
-          (hands_both a b d [] so_far c.loop-r.buffer.items text c.write_report.new.buffer.items c.loop-r.invariant.so_far c.in_ok-write_report.ensures.whole);
+      so_far = subst (λ (t : List ℕ). HandsOn a d [] t c.write_report.new.room.buffer.items) (texts_next names c.args.reports.now c.args.closing.now c.loop-r.r x closing c.requires.one_each c.loop-r-test.true there same)
+          (hands_both a b d [] so_far c.loop-r.room.buffer.items text c.write_report.new.room.buffer.items c.loop-r.invariant.so_far c.in_ok-write_report.ensures.whole);
     }
 
 pub returns-in_err-write_buffer-clause-part : goal.returns-in_err-write_buffer-clause-part
@@ -58,7 +58,7 @@ returns-in_err-write_buffer-clause-part g c =
     let b = g.W.Write.contents c.loop-r.out in
     let d = g.W.Write.contents c.write_buffer.new.out in
     on_err c.from_residual-in_err-write_buffer.result
-    (prefix_of a d (so_far ++ []) more.0 (texts_from names 0 c.args.reports.now c.args.closing.now) (part_after a b d [] so_far c.loop-r.buffer.items [] c.loop-r.invariant.so_far c.in_err-write_buffer.ensures.part) (more.1 ∙ ap (λ (t : List ℕ). t ++ more.0) (sym (append-nil so_far))))
+    (prefix_of a d (so_far ++ []) more.0 (texts_from names 0 c.args.reports.now c.args.closing.now) (part_after a b d [] so_far c.loop-r.room.buffer.items [] c.loop-r.invariant.so_far c.in_err-write_buffer.ensures.part) (more.1 ∙ ap (λ (t : List ℕ). t ++ more.0) (sym (append-nil so_far))))
 
 pub returns : goal.returns
 returns g c =
@@ -70,7 +70,7 @@ returns g c =
     let e = g.W.Write.contents c.flush.new.self in
     let ended : length c.args.closing.now ≤ c.loop-r.r = subst (λ (n : ℕ). n ≤ c.loop-r.r) c.requires.one_each c.loop-r-test.false in
     let whole : so_far ≡ text = rw (take_all c.loop-r.r c.args.reports.now c.loop-r-test.false, take_all c.loop-r.r c.args.closing.now ended) refl in
-    let written = subst (λ (t : List ℕ). Appends a d t) whole (hands_through a b d so_far c.loop-r.buffer.items c.loop-r.invariant.so_far c.in_ok-write_buffer.ensures.whole) in
+    let written = subst (λ (t : List ℕ). Appends a d t) whole (hands_through a b d so_far c.loop-r.room.buffer.items c.loop-r.invariant.so_far c.in_ok-write_buffer.ensures.whole) in
     record {
       whole = on_ok c.flush.result (flushed a d e text written c.flush.ensures.bytes);
       part = on_err c.flush.result (prefix_flushed a d e text written c.flush.ensures.bytes);

@@ -12,10 +12,10 @@ returns-in_err-write_timeline-clause-part g c =
 
 pub returns-clause-part : goal.returns-clause-part
 returns-clause-part g c =
-    on_err_weaker c.write_text.result (line_drained_part Timeline c.args.plan.now (timeline_lines c.args.plan.now.names) (λ told closing. refl) (g.W.Write.contents c.args.out.now) (g.W.Write.contents c.write_timeline.new.out) (g.W.Write.contents c.write_text.new.out) c.write_timeline.new.buffer.items
+    on_err_weaker c.write_text.result (line_drained_part Timeline c.args.plan.now (timeline_lines c.args.plan.now.names) (λ told closing. refl) (g.W.Write.contents c.args.out.now) (g.W.Write.contents c.write_timeline.new.out) (g.W.Write.contents c.write_text.new.out) c.write_timeline.new.room.buffer.items
     (rw c.args.ready.empty at c.in_ok-write_timeline.ensures.whole)) c.write_text.ensures.part
 
 pub returns-clause-whole : goal.returns-clause-whole
 returns-clause-whole g c =
-    on_ok_weaker c.write_text.result (line_drained Timeline c.args.plan.now (timeline_lines c.args.plan.now.names) (λ told closing. refl) (g.W.Write.contents c.args.out.now) (g.W.Write.contents c.write_timeline.new.out) (g.W.Write.contents c.write_text.new.out) c.write_timeline.new.buffer.items
+    on_ok_weaker c.write_text.result (line_drained Timeline c.args.plan.now (timeline_lines c.args.plan.now.names) (λ told closing. refl) (g.W.Write.contents c.args.out.now) (g.W.Write.contents c.write_timeline.new.out) (g.W.Write.contents c.write_text.new.out) c.write_timeline.new.room.buffer.items
     (rw c.args.ready.empty at c.in_ok-write_timeline.ensures.whole)) c.write_text.ensures.whole

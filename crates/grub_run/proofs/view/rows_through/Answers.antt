@@ -12,10 +12,10 @@ returns-in_err-write_steps-clause-part g c =
 
 pub returns-clause-part : goal.returns-clause-part
 returns-clause-part g c =
-    on_err_weaker c.write_text.result (line_drained_part Steps c.args.plan.now (rows_of c.args.plan.now) (λ told closing. refl) (g.W.Write.contents c.args.out.now) (g.W.Write.contents c.write_steps.new.out) (g.W.Write.contents c.write_text.new.out) c.write_steps.new.buffer.items
+    on_err_weaker c.write_text.result (line_drained_part Steps c.args.plan.now (rows_of c.args.plan.now) (λ told closing. refl) (g.W.Write.contents c.args.out.now) (g.W.Write.contents c.write_steps.new.out) (g.W.Write.contents c.write_text.new.out) c.write_steps.new.room.buffer.items
     (rw c.args.ready.empty at c.in_ok-write_steps.ensures.whole)) c.write_text.ensures.part
 
 pub returns-clause-whole : goal.returns-clause-whole
 returns-clause-whole g c =
-    on_ok_weaker c.write_text.result (line_drained Steps c.args.plan.now (rows_of c.args.plan.now) (λ told closing. refl) (g.W.Write.contents c.args.out.now) (g.W.Write.contents c.write_steps.new.out) (g.W.Write.contents c.write_text.new.out) c.write_steps.new.buffer.items
+    on_ok_weaker c.write_text.result (line_drained Steps c.args.plan.now (rows_of c.args.plan.now) (λ told closing. refl) (g.W.Write.contents c.args.out.now) (g.W.Write.contents c.write_steps.new.out) (g.W.Write.contents c.write_text.new.out) c.write_steps.new.room.buffer.items
     (rw c.args.ready.empty at c.in_ok-write_steps.ensures.whole)) c.write_text.ensures.whole

@@ -16,15 +16,15 @@ returns-in-Err-clause-part g c =
     let line = told_line c.args.plan.now.names in let inv = c.loop-more.invariant in let p = c.play_beside-goes_on in
     let a = g.W.Write.contents c.args.out.now in
     let b = g.W.Write.contents c.loop-more.out in
-    let d = g.W.Write.contents p.new.work.3.now in
+    let d = g.W.Write.contents p.new.work.2.now in
     let latest = c.loop-more.playing.chunk in let rest = p.new.playing.chunk ++ c.play_out.ensures.told.0 in
     let is : c.as_slice-told.result.now ≡ latest = search rules in
     let was : p.new.playing.told ≡ (inv.before ++ latest) ++ p.new.playing.chunk = rw (c.exchange.ensures.told, inv.told) at p.ensures.told in
     let all : c.play_out.new.playing.told ≡ inv.before ++ (latest ++ rest) = told_out inv.before latest p.new.playing.chunk c.play_out.ensures.told.0 p.new.playing.told c.play_out.new.playing.told was c.play_out.ensures.told.1 in
-    let part : HandsPart b d c.loop-more.buffer.items (flat_map line latest) = rw (c.in-Err.is, is) at p.ensures.work.met.1.1.0 in
+    let part : HandsPart b d c.loop-more.room.buffer.items (flat_map line latest) = rw (c.in-Err.is, is) at p.ensures.work.met.1.1.0 in
     let whole : flat_map line inv.before ++ flat_map line (latest ++ rest) ≡ flat_map line c.play_out.new.playing.told = sym (ap (flat_map line) all ∙ flat_map-append line inv.before (latest ++ rest)) in
-    subst (λ w. HandsPart a (g.W.Write.contents w) c.args.buffer.now.items (flat_map line c.play_out.new.playing.told)) (sym (search rules))
-    (part_piece a b d c.args.buffer.now.items (flat_map line inv.before) c.loop-more.buffer.items (flat_map line latest) (flat_map line rest) (flat_map line (latest ++ rest)) (flat_map line c.play_out.new.playing.told)
+    subst (λ w. HandsPart a (g.W.Write.contents w) c.args.room.now.buffer.items (flat_map line c.play_out.new.playing.told)) (sym (search rules))
+    (part_piece a b d c.args.room.now.buffer.items (flat_map line inv.before) c.loop-more.room.buffer.items (flat_map line latest) (flat_map line rest) (flat_map line (latest ++ rest)) (flat_map line c.play_out.new.playing.told)
     inv.so_far part whole (flat_map-append line latest rest))
 
 pub loop-more-preserved : goal.loop-more-preserved
@@ -32,15 +32,15 @@ loop-more-preserved g c =
     let line = told_line c.args.plan.now.names in let inv = c.loop-more.invariant in let p = c.play_beside-goes_on in
     let a = g.W.Write.contents c.args.out.now in
     let b = g.W.Write.contents c.loop-more.out in
-    let d = g.W.Write.contents p.new.work.3.now in
+    let d = g.W.Write.contents p.new.work.2.now in
     let latest = c.loop-more.playing.chunk in
     let slice : c.as_slice-told.result.now ≡ latest = search rules in
     let was : p.new.playing.told ≡ (inv.before ++ latest) ++ p.new.playing.chunk = rw (c.exchange.ensures.told, inv.told) at p.ensures.told in
     let is : p.new.playing.plan ≡ c.args.plan.now = p.ensures.plan ∙ c.exchange.ensures.plan ∙ inv.plan in
     let within : AreWithin c.args.plan.now.setup p.new.playing.chunk = subst (λ (v : PlanView). AreWithin v.setup p.new.playing.chunk) is p.ensures.within in
-    let more : HandsOn b d c.loop-more.buffer.items (flat_map line latest) p.new.work.2.now.items = rw (c.in_default.is, slice) at p.ensures.work.met.1.0 in
-    let done : HandsOn a d c.args.buffer.now.items (flat_map line (inv.before ++ latest)) p.new.work.2.now.items =
-    rw (flat_map-append line inv.before latest) (hands_both a b d c.args.buffer.now.items (flat_map line inv.before) c.loop-more.buffer.items (flat_map line latest) p.new.work.2.now.items inv.so_far more) in
+    let more : HandsOn b d c.loop-more.room.buffer.items (flat_map line latest) p.new.work.0.now.buffer.items = rw (c.in_default.is, slice) at p.ensures.work.met.1.0 in
+    let done : HandsOn a d c.args.room.now.buffer.items (flat_map line (inv.before ++ latest)) p.new.work.0.now.buffer.items =
+    rw (flat_map-append line inv.before latest) (hands_both a b d c.args.room.now.buffer.items (flat_map line inv.before) c.loop-more.room.buffer.items (flat_map line latest) p.new.work.0.now.buffer.items inv.so_far more) in
     record {
       plan = is;
       latest = search rules;
@@ -50,5 +50,5 @@ loop-more-preserved g c =
       within = within;
       before = inv.before ++ latest;
       told = was;
-      so_far = hands_same a _ d c.args.buffer.now.items (flat_map line (inv.before ++ latest)) _ p.new.work.2.now.items (search rules) (search rules) done;
+      so_far = hands_same a _ d c.args.room.now.buffer.items (flat_map line (inv.before ++ latest)) _ p.new.work.0.now.buffer.items (search rules) (search rules) done;
     }

@@ -13,13 +13,13 @@ abbrev pub invariant-loop-more : goal.invariant-loop-more
 invariant-loop-more g l = record {
   plan : l.playing.plan ≡ l.plan;
   latest : length l.plan.setup.tasks + 3 ≤ vec_capacity l.latest;
-  room : LINE_MAX ≤ vec_capacity l.buffer;
+  room : LINE_MAX ≤ vec_capacity l.room.buffer;
   over : OnFalse l.more (l.playing.left ≡ 0);
   none : OnFalse l.more (l.playing.chunk ≡ []);
   within : AreWithin l.plan.setup l.playing.chunk;
   before : List ToldEntry;
   told : l.playing.told ≡ before ++ l.playing.chunk;
-  so_far : HandsOn (g.W.Write.contents l.initial.out) (g.W.Write.contents l.out) l.initial.buffer.items (flat_map (told_line l.plan.names) before) l.buffer.items;
+  so_far : HandsOn (g.W.Write.contents l.initial.out) (g.W.Write.contents l.out) l.initial.room.buffer.items (flat_map (told_line l.plan.names) before) l.room.buffer.items;
 }
 
 abbrev pub decreases-loop-more : goal.decreases-loop-more

@@ -16,20 +16,20 @@ use Rattle.grub_views.proofs.rows.write_rows.Given as goal
 abbrev pub invariant-loop-more : goal.invariant-loop-more
 invariant-loop-more g l = record {
   plan : l.playing.plan ≡ l.plan;
-  latest : length l.plan.setup.tasks + 3 ≤ vec_capacity l.latest;
-  room : LINE_MAX ≤ vec_capacity l.buffer;
-  steps : l.playing.most ≤ vec_capacity l.steps;
-  waiting : vec_capacity l.latest ≤ vec_capacity l.steps;
+  latest : length l.plan.setup.tasks + 3 ≤ vec_capacity l.maker.latest;
+  room : LINE_MAX ≤ vec_capacity l.room.buffer;
+  steps : l.playing.most ≤ vec_capacity l.maker.steps;
+  waiting : vec_capacity l.maker.latest ≤ vec_capacity l.maker.steps;
   few : length l.playing.chunk ≤ l.playing.most;
   over : OnFalse l.more (l.playing.left ≡ 0);
   none : OnFalse l.more (l.playing.chunk ≡ []);
   within : AreWithin l.plan.setup l.playing.told;
   viewable : AreToldIn l.plan.setup l.playing.chunk;
-  setup : l.book.setup ≡ l.plan.setup;
+  setup : l.maker.book.setup ≡ l.plan.setup;
   before : List ToldEntry;
   told : l.playing.told ≡ before ++ l.playing.chunk;
-  book : l.book.records ≡ book_past l.plan.setup (opening_book l.plan.setup) before;
-  so_far : HandsOn (g.W.Write.contents l.initial.out) (g.W.Write.contents l.out) l.initial.buffer.items (flat_map (step_row l.plan.names) (steps_of l.plan.setup before)) l.buffer.items;
+  book : l.maker.book.records ≡ book_past l.plan.setup (opening_book l.plan.setup) before;
+  so_far : HandsOn (g.W.Write.contents l.initial.out) (g.W.Write.contents l.out) l.initial.room.buffer.items (flat_map (step_row l.plan.names) (steps_of l.plan.setup before)) l.room.buffer.items;
 }
 
 abbrev pub decreases-loop-more : goal.decreases-loop-more

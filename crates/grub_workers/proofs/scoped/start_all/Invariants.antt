@@ -8,8 +8,8 @@ use Rattle.grub_workers.proofs.scoped.start_all.Given as goal
 abbrev pub invariant-loop-pass : goal.invariant-loop-pass
 invariant-loop-pass g l =
     let done = vec_len l.handles in let rest = l.pass-iterator in
-    (done + into_iter_len rest ≡ length l.plan.scripts)
-    × (length l.plan.scripts ≤ vec_capacity l.handles)
+    (done + into_iter_len rest ≡ length l.work.plan.now.scripts)
+    × (length l.work.plan.now.scripts ≤ vec_capacity l.handles)
     × (l.refusal ≡ None)
-    × ((k : ℕ) (d : _) → k < into_iter_len rest → IsNew l.table (done + k) (get_or (into_iter_items rest) k d))
-    × ((k : ℕ) (d : _) → k < done → IsOf l.table l.tries l.plan.scripts k (get_or (vec_items l.handles) k d).promise)
+    × ((k : ℕ) (d : _) → k < into_iter_len rest → IsNew l.work.table.now (done + k) (get_or (into_iter_items rest) k d))
+    × ((k : ℕ) (d : _) → k < done → IsOf l.work.table.now l.work.attempts.tries l.work.plan.now.scripts k (get_or (vec_items l.handles) k d).promise)

@@ -35,7 +35,7 @@ pub returns-in-Err-clause-failed : goal.returns-in-Err-clause-failed
 returns-in-Err-clause-failed g c is = wrong_failed _ _ c.in-Err.ensures.faults _ _ _ c.serve_error.ensures.memory
 
 pub returns-in-Err-clause-help : goal.returns-in-Err-clause-help
-returns-in-Err-clause-help g c refused is = wrong_help (map string_bytes c.args.words.now) _ c.in-Err.ensures.faults _ _ _ c.serve_error.ensures.memory (g.W.Write.contents c.args.out.now) (g.W.Write.contents c.serve_error.new.out) is (c.serve_error.ensures.shown is)
+returns-in-Err-clause-help g c refused is = wrong_help (map string_bytes c.args.words.now) _ c.in-Err.ensures.faults _ _ _ c.serve_error.ensures.memory (g.W.Write.contents c.args.streams.now.out) (g.W.Write.contents c.serve_error.new.streams.out) is (c.serve_error.ensures.shown is)
 
 pub returns-in-Err-clause-status : goal.returns-in-Err-clause-status
 returns-in-Err-clause-status g c = wrong_most _ c.serve_error.ensures.status
