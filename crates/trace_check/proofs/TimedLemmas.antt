@@ -1,5 +1,5 @@
 -- A verdict by timers, and the text that was read.
-use Rattle.std.proofs.Common.{◌≡◌, ℕ, ◌+◌, ◌==◌, Bool, true, false, not, ◌||◌, cond, List, [], ◌∷◌, length, Option, Some, None, is_none, is_some, option_map, Result, Ok, Err, IfOk, IsTrue, refl, sym, ap, subst, ◌∙◌}
+use Rattle.std.proofs.Common.{◌≡◌, ℕ, ◌+◌, ◌==◌, Bool, true, false, not, ◌||◌, cond, List, [], ◌∷◌, length, Option, Some, None, is_none, is_some, option_map, Result, Ok, Err, IfOk, IfSome, IsTrue, refl, sym, ap, subst, ◌∙◌, arith}
 use Rattle.std.specs.List.{list_any, position, position_from}
 use Rattle.std.proofs.lemmas.Iterator.Adapters.{position_from-zero}
 use Rattle.text_bytes.specs.Source.{Opener, Reader}
@@ -32,10 +32,6 @@ none_from : {A : Type 0} (p : A → Bool) (n : ℕ) (xs : List A) → is_none (p
 none_from p n [] = refl
 none_from p n (x ∷ xs) = none_by (p x) n (position_from p (n + 1) xs) (list_any p xs) (none_from p (n + 1) xs)
 
-is_true : (b : Bool) → IsTrue b → b ≡ true
-is_true true t = refl
-is_true false t = absurd t
-
 -- there is no first one where there is none
 no_first : {A : Type 0} (p : A → Bool) (xs : List A) → is_none (position p xs) ≡ not (list_any p xs)
 no_first p xs = ap is_none (position_from-zero p xs) ∙ none_from p 0 xs
@@ -63,7 +59,7 @@ timed (Err e) o g setup start lines j agrees judged observed gathered domain sum
 pub agreeing : (r : Result Verdict Fault) (o : CheckOptions) (g : Gathering) → IfOk r (λ (v : Verdict). IsTimedVerdict o g.head (timed_in g).lines.kept v.agrees)
     → IfOk r (λ (v : Verdict). IsTrue v.agrees → IsTimed o g true)
 unfolding IsTimed
-agreeing (Ok v) o g so = λ agrees asked. subst (IsTimedVerdict o g.head (timed_in g).lines.kept) (is_true v.agrees agrees) so
+agreeing (Ok v) o g so = λ agrees asked. subst (IsTimedVerdict o g.head (timed_in g).lines.kept) agrees so
 agreeing (Err e) o g so = tt
 
 pub differing : (r : Result Verdict Fault) (o : CheckOptions) (g : Gathering) → IfOk r (λ (v : Verdict). IsTimedVerdict o g.head (timed_in g).lines.kept v.agrees)
@@ -73,8 +69,8 @@ differing (Ok v) o g so = λ differs asked. subst (IsTimedVerdict o g.head (time
 differing (Err e) o g so = tt
 
 not_both : (b : Bool) → b ≡ false → IsTrue b → ⊥
-not_both true e t = grind e
-not_both false e t = t
+not_both true e t = absurd (grind (arith, e))
+not_both false e t = absurd (grind (arith, t))
 
 pub moved : (o : CheckOptions) (g m : Gathering) (agrees : Bool) → m ≡ g → IsTimed o m agrees → IsTimed o g agrees
 moved o g m agrees same so = subst (λ (h : Gathering). IsTimed o h agrees) same so
@@ -84,11 +80,15 @@ pub not_timed : (o : CheckOptions) (g : Gathering) (agrees : Bool) → is_by_tim
 unfolding IsTimed
 not_timed o g agrees by = λ asked. absurd (not_both (is_by_timers o g) by asked)
 
+-- what is so where there is a verdict
+pub where_some : (f : Option Verdict) (v : Verdict) (P : Type 0) → f ≡ Some v → IfSome f (λ w. P) → P
+where_some f v P is so = subst (λ (h : Option Verdict). IfSome h (λ w. P)) is so
+
 -- where no line of a probe came, none was played
 by_timers : (b : Bool) (p : Option Played) (some : Bool) → IsTrue (b || not (is_some p || some)) → IsTrue (b || is_none (option_map (λ (q : Played). q.player) p))
 by_timers true p some asked = asked
-by_timers false None some asked = tt
-by_timers false (Some q) some asked = absurd asked
+by_timers false None some asked = refl
+by_timers false (Some q) some asked = absurd (grind (arith, asked))
 
 -- what a verdict on what was gathered says of the text
 pub of_text : (o : CheckOptions) (beside : Bool) (g : Gathering) (agrees : Bool) → IsTimed o g agrees → (text : List ℕ)
