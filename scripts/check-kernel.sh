@@ -168,6 +168,7 @@ boot() {
     slow=
     seconds=${SECONDS_A_BOOT:-$((300 + 60 * $#))}
     : > "$work/console"
+    : > "$work/records"
     timeout "$seconds" "${qemu[@]}" "${machine[@]}" -smp "$cpus" -m 1024 -no-reboot \
         -display none -monitor none "${lines[@]}" \
         -kernel "$kernel" -initrd "$work/initramfs" -append "$words quiet panic=-1 noirqdebug nokaslr norandmaps ${again:+again=$again }${APPEND:-}" \

@@ -283,8 +283,9 @@ def states(folder):
 
 
 def probes():
-    """The events of a record: a filter asks for a field of its event; a processor that could not be taken off comes back by another function."""
-    forms, wrong = [], []
+    """The events of a record: a filter asks for a field of its event, and no member of single bits is the last field; a processor that could
+    not be taken off comes back by another function."""
+    forms, last, wrong = [], {}, []
     for line in text_of(f"{KERNEL}/probes.txt").splitlines():
         if re.match("[a-z]", line):
             forms.append((*line.split(), []))
@@ -292,6 +293,8 @@ def probes():
             wrong += [f"{forms[-1][0]} has no {it}=" for it in re.findall(r"([a-z]\w*) (?:==|>|&)", line) if it not in forms[-1][2]]
         elif line.startswith("    "):
             forms[-1][2].extend(it.split("=")[0] for it in line.split())
+            last[forms[-1][0]] = line.split()[-1]
+    wrong += [f"{name} ends with {it}" for name, it in last.items() if re.search(r"\bdl_(throttled|yielded|non_contending|server|server_active)$", it)]
     gone = [it[:2] for it in forms if it[0] in ("onl", "off")]
     wanted = [("onl", "balance_push_set"), ("onl", "sched_cpu_activate"), ("off", "balance_push_set"), ("off", "sched_cpu_deactivate")]
     TRIED.add("probes.txt", wrong + differs("of processors that come and go", gone, wanted))
