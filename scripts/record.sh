@@ -233,7 +233,7 @@ fi
 } | cat 2> /dev/null >> "$part" && "$kernel_scripts/probes.sh" mask $drop < "$part" > "$part.2" && mv -f "$part.2" "$part" && mv -f "$part" "$out" || fail "$out cannot be written"
 say "$((lost + ${missed:-0})) events were lost"
 [ $((lost + ${missed:-0})) = 0 ] || exit 4
-# Now and then the kernel stamps all lines of a page of its buffer with an earlier moment: they then stand before what came before them.
+# Where the first moment of a page of the buffer is spoiled, its lines seem to be earlier than those before them.
 back=$(awk '!/^#/ && match($0, / [0-9]+[.][0-9]+: /) { at = substr($0, RSTART, RLENGTH) + 0; if (at < last) { print last - at; exit } last = at }' "$out")
 [ ! "$back" ] || { say "the kernel's moments go back by $back s, so lines are not in their order: record again"; exit 4; }
 exit "$status"
