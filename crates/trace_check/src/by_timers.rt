@@ -29,6 +29,9 @@ use timer_verdict::{
 use trace_faults::{Fault, Uncompared};
 use trace_options::CheckOptions;
 
+/// However far a moment lies from the kernel's.
+const NOT_JUDGED: u64 = u64::MAX;
+
 /// A record of timers, with what its play begins with.
 #[derive(Drop)]
 struct TimedRecord {
@@ -168,7 +171,8 @@ fn differ(judged: &Judged) -> u64 {
     differ
 }
 
-/// The states that lines of timers show, beside a verdict of others; none where they show none.
+/// The states that lines of timers show, beside a verdict of others; none where they show none. Probes make timers late, so their moments
+/// are not judged.
 pub(crate) fn timer_states<'o>(
     alloc: Global,
     wanted: CheckRequest<'_>,
@@ -182,7 +186,7 @@ pub(crate) fn timer_states<'o>(
                 timed.setup,
                 &timed.start,
                 &timed.lines,
-                options.within,
+                NOT_JUDGED,
                 None,
             )?;
             let judged = judged_of(outcome);
