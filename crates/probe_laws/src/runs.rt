@@ -11,7 +11,8 @@ pub fn only_lines_come_next()
     ensures { (t : PlayRules) → (s : State) → OnlyLinesComeNext t s }
 {}
 
-/// Two runs over the same lines come to the same state, where nothing is pending at their lines.
+/// Two runs over the same lines come to the same state, where nothing is pending at their lines nor at the end, and each line is played as
+/// it is shown.
 pub fn lines_decide()
     ensures { (t : PlayRules) → (s : State) → (one : List RunStep) → (other : List RunStep)
         → LinesDecide t s one other }
