@@ -3,7 +3,6 @@
 
 mod gathering;
 mod laws;
-mod marks;
 mod names;
 mod notes;
 mod played;
@@ -14,7 +13,6 @@ mod whole;
 
 pub use gathering::{EarlierLine, Gathering};
 pub use laws::{LawsOfRecord, RecordLaws};
-pub use marks::Marks;
 pub use names::Names;
 pub use played::{AHEAD, Played};
 pub use probes::Probes;

@@ -7,13 +7,13 @@ ghost use Rattle.probe_findings.specs.Tallies.{none_differs};
 ghost use Rattle.probe_start.specs.Looks.{arms_timer, shows_dequeue};
 ghost use Rattle.check_record.specs.Playing.{AreSeenBy, IsPlayedBy, has_lines, lines_in, rules_in, taken_in};
 
-use crate::marks::Marks;
 use crate::names::Names;
 use crate::played::Played;
 use check_settings::RecordHead;
 use kernel_entity::ChargeLaw;
 use probe_explain::ProbeLine;
 use probe_findings::{Broken, Deviation, Findings, KindCounts, Laws};
+use probe_marks::Marks;
 use probe_start::{RecordLook, StartNotes};
 use probe_verdict::{put_row, total_of};
 use std::alloc::{AllocError, Global};
@@ -171,7 +171,7 @@ impl Probes {
         self.see_class(&line.probe)?;
         self.look.see(line.place.at, &line.probe)?;
         self.laws.see(line.place, &line.probe)?;
-        self.marks.see(line)
+        self.marks.see(line.place, &line.probe)
     }
 
     fn keep_or_play(

@@ -11,7 +11,7 @@ mod timers;
 mod words;
 
 pub use laws::add_laws;
-pub use probes::{MarkCount, ProbeAnswers, add_evidence, add_probes};
+pub use probes::{ProbeAnswers, add_evidence, add_probes};
 pub use record::{ReportSettings, add_settings};
 pub use report::CheckReport;
 pub use tasks::add_tasks;

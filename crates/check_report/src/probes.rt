@@ -4,9 +4,10 @@ use crate::record::{cpus_of, kernel_of, lost_of, release_of, tasks_of};
 use crate::report::CheckReport;
 use crate::words::{lines_of, text_of, word};
 use probe_findings::{
-    Broken, Comparison, Comparisons, Deviation, ExactValue, KindCounts, Law, ProbedFunction,
-    Subject, Whose, Why, kind_of,
+    Broken, Comparison, Comparisons, Deviation, ExactValue, KindCounts, Law, Subject, Whose, Why,
+    kind_of,
 };
+use probe_marks::MarkCount;
 use probe_verdict::{
     Evidence, KINDS, ProbeHeading, event_name, function_of, kind_name, put_arithmetic,
     quantity_name, rule_function, rule_name, total_of,
@@ -14,14 +15,6 @@ use probe_verdict::{
 use serde_json::{Value, json, put};
 use std::alloc::{AllocError, Global};
 use trace_data::{Kernel, TimerFunction};
-
-/// The marks of one kind: how many there are, and the first line that shows one.
-#[derive(Clone, Copy)]
-pub struct MarkCount {
-    pub event: ProbedFunction,
-    pub count: u64,
-    pub first: u64,
-}
 
 /// What lines of probes came to.
 #[derive(Clone, Copy)]

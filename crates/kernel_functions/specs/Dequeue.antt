@@ -21,8 +21,13 @@ departing_change e Stays = no_change
 departing_change e Moves = gone_with e.dl_bw
 departing_change e Restores = gone_with e.dl_bw
 
+-- it blocks: on_rq becomes 0
 unfoldable pub off_of : Entity → Entity
 off_of e = record e { is_in_tree = false; is_queued = false }
+
+-- it is saved or moved: on_rq does not become 0, so a dl_task_timer that waits for the lock finds it queued
+unfoldable pub taken_of : Entity → Entity
+taken_of e = record e { is_in_tree = false }
 
 unfoldable pub sleeping_of : Entity → ℕ → SumsChange → Arrival → Dequeuing
 sleeping_of e clock c departure =
@@ -40,4 +45,4 @@ dequeuing_of e flags on_rq clock =
     let departure = departing_of flags on_rq in
     let c = departing_change (off_of e) departure in
     if contains_bits flags WAKEUP then sleeping_of (off_of e) clock c departure
-    else record { entity = off_of e; change = c; departure = departure; block = None }
+    else record { entity = taken_of e; change = c; departure = departure; block = None }

@@ -8,7 +8,7 @@ use Rattle.kernel_entity.specs.Activity.{blocking_of, blocked_of, blocking_chang
 use Rattle.kernel_functions.specs.declared.exits.Leaving.{Leaving}
 
 unfoldable pub outside_of : Entity → Entity
-outside_of e = record e { is_in_class = false }
+outside_of e = record e { is_in_class = false; is_queued = false }
 
 unfoldable pub contends_no_more : Entity → Entity
 contends_no_more e = record e { is_non_contending = false }

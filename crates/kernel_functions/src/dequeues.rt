@@ -1,7 +1,7 @@
 //! A task is dequeued (`dequeue_task_dl`, `dequeue_dl_entity`).
 
 ghost use Rattle.std.specs.Prelude.{◌≡◌};
-ghost use Rattle.kernel_functions.specs.Dequeue.{departing_of, departing_change, dequeuing_of, sleeping_of, off_of};
+ghost use Rattle.kernel_functions.specs.Dequeue.{departing_of, departing_change, dequeuing_of, sleeping_of, off_of, taken_of};
 
 use crate::enqueues::Arrival;
 use kernel_entity::{
@@ -65,6 +65,7 @@ fn sleeping(entity: Entity, clock: u64, change: SumsChange, departure: Arrival) 
     }
 }
 
+/// A task that blocks.
 #[tactic(auto, unfolding(crate::specs::Dequeue::off_of))]
 fn off(entity: Entity) -> Entity
     ensures { result ≡ off_of entity }
@@ -76,19 +77,29 @@ fn off(entity: Entity) -> Entity
     }
 }
 
+/// A task that is saved, or moved.
+#[tactic(auto, unfolding(crate::specs::Dequeue::taken_of))]
+fn taken(entity: Entity) -> Entity
+    ensures { result ≡ taken_of entity }
+{
+    Entity {
+        is_in_tree: false,
+        ..entity
+    }
+}
+
 /// What a dequeue with these DEQUEUE_ flags does, after the charge in it (`dequeue_dl_entity`).
 #[tactic(auto, unfolding(crate::specs::Dequeue::dequeuing_of))]
 pub fn dequeue(entity: Entity, flags: u64, on_rq: u64, clock: u64) -> Dequeuing
     ensures { result ≡ dequeuing_of entity flags on_rq clock }
 {
-    let entity = off(entity);
     let departure = departing(flags, on_rq);
-    let change = departure_change(entity, departure);
+    let change = departure_change(off(entity), departure);
     if has(flags, WAKEUP) {
-        return sleeping(entity, clock, change, departure);
+        return sleeping(off(entity), clock, change, departure);
     }
     Dequeuing {
-        entity,
+        entity: taken(entity),
         change,
         departure,
         block: None,

@@ -5,7 +5,7 @@ use Rattle.kernel_entity.specs.declared.activity.Block.{Block}
 use Rattle.kernel_entity.specs.declared.activity.Block.TheVariants.{Unreserved, ZeroLagTimer, Past}
 use Rattle.kernel_entity.specs.Clock.{plus, less}
 use Rattle.kernel_entity.specs.Activity.{blocking_of, blocked_of, blocking_change_of}
-use Rattle.kernel_functions.specs.Dequeue.{dequeuing_of, departing_of, departing_change, sleeping_of, off_of}
+use Rattle.kernel_functions.specs.Dequeue.{dequeuing_of, departing_of, departing_change, sleeping_of, off_of, taken_of}
 use Rattle.kernel_laws.specs.Summing.{counted, active, Balances, IsInClass, place_after, SleepBalances, SaveBalances, MoveBalances, ZeroLagBalances}
 
 -- what is taken off is gone
@@ -36,7 +36,7 @@ zero_lag_balances e o h = record {
 }
 
 pub save_balances : (e : Entity) (flags on_rq clock : ℕ) → SaveBalances e flags on_rq clock
-unfolding dequeuing_of departing_of departing_change off_of
+unfolding dequeuing_of departing_of departing_change off_of taken_of
 save_balances e flags on_rq clock o w s m =
     rw w (rw m (rw s (record { this = taken_off e.dl_bw o.fits; running = taken_off e.dl_bw o.fits })))
 

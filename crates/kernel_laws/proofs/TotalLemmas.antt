@@ -19,7 +19,7 @@ use Rattle.kernel_functions.specs.declared.enqueues.Arrival.{Arrival}
 use Rattle.kernel_functions.specs.declared.enqueues.Arrival.TheVariants.{Stays, Moves, Restores}
 use Rattle.kernel_functions.specs.Admit.{admitting_of, admitting_by, is_queued_of, new_of, still_of, enters_of}
 use Rattle.kernel_functions.specs.Leave.{leaving_of, outside_of, contends_no_more, leaving_change}
-use Rattle.kernel_functions.specs.Dequeue.{dequeuing_of, departing_of, departing_change, sleeping_of, off_of}
+use Rattle.kernel_functions.specs.Dequeue.{dequeuing_of, departing_of, departing_change, sleeping_of, off_of, taken_of}
 use Rattle.kernel_functions.specs.Enqueue.{enqueuing_of, enqueuing_by, boosting_of, arriving_of, arriving_change, waking_up_of}
 use Rattle.kernel_functions.specs.Later.{lock_change_of, after_lock_of}
 use Rattle.kernel_functions.specs.Timer.{is_gone_of}

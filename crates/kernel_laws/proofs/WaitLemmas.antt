@@ -22,7 +22,7 @@ use Rattle.kernel_functions.specs.declared.enqueues.Refill.{Refill}
 use Rattle.kernel_functions.specs.declared.enqueues.Refill.TheVariants.{Waits, Stays as RefillStays, Wakes, Replenishes, Restarts}
 use Rattle.kernel_functions.specs.Spend.{is_spent, throttled_of, throttling_of, spending_by, spending_of}
 use Rattle.kernel_functions.specs.Enqueue.{enqueuing_of, enqueuing_by, boosting_of, placed_of, is_constrained_of, constrained_of, arriving_of, arriving_change, waking_up_of, refilling_of, refilled_of}
-use Rattle.kernel_functions.specs.Dequeue.{dequeuing_of, departing_of, departing_change, off_of, sleeping_of}
+use Rattle.kernel_functions.specs.Dequeue.{dequeuing_of, departing_of, departing_change, off_of, taken_of, sleeping_of}
 use Rattle.kernel_functions.specs.Timer.{replenish_fired_of}
 use Rattle.kernel_laws.specs.Waiting.{IsWaited, ChargeWaits, EnqueueWaits, ReturnWaits, DequeueWaits, TimerWaits, ChargeThrottles}
 
@@ -130,7 +130,7 @@ block_waits e (ZeroLagTimer ahead) w = w
 block_waits e Past w = cleared_waits e (ends_of e) w
 
 dequeue_by : (e : Entity) (flags on_rq clock : ℕ) (b : Bool) → contains_bits flags WAKEUP ≡ b → DequeueWaits e flags on_rq clock
-unfolding dequeuing_of sleeping_of off_of
+unfolding dequeuing_of sleeping_of off_of taken_of
 dequeue_by e flags on_rq clock true is w = rw is (block_waits (off_of e) _ w)
 dequeue_by e flags on_rq clock false is w = rw is w
 

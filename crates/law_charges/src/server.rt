@@ -1,19 +1,19 @@
 //! Servers: what fair servers are charged, and stop with.
 
-ghost use Rattle.std.specs.Prelude.{◌≡◌, ◌≢◌, IsTrue, OnOk, false, slice_index_or};
+ghost use Rattle.std.specs.Prelude.{◌≡◌, ◌≢◌, IsTrue, OnOk, false, true, slice_index_or};
 ghost use Rattle.law_findings.specs.declared.words.Law.TheVariants.{Server as OfServer};
 ghost use Rattle.law_findings.specs.Judged.{OnlyTells, broken_in, held_in, held_twice};
 ghost use Rattle.law_charges.specs.inside.Runs.{server_broken, unknown_server};
 ghost use Rattle.law_findings.specs.Budget.{IsWithin};
-ghost use Rattle.law_findings.specs.Server.{IsNear, left_by};
+ghost use Rattle.law_findings.specs.Server.{IsLowered, IsNear, left_by};
 ghost use Rattle.law_findings.specs.declared.words.Finding.TheVariants.{OtherCharge};
 
 use law_findings::{
-    Breach, Finding, JudgedLaws, Law, LineKind, ReadLine, Whose, is_near, is_taken_once, is_within,
-    nanos_of,
+    Breach, Finding, JudgedLaws, Law, LineKind, ReadLine, ServerStart, Whose, is_lowered, is_near,
+    is_taken_once, is_within, nanos_of,
 };
 use std::alloc::{AllocError, Global};
-use trace_data::{Picked, ServerIdled, Updated};
+use trace_data::{Picked, ServerIdled, ServerStarted, Updated};
 
 /// A server's reservation, in nanoseconds.
 #[derive(Clone, Copy)]
@@ -38,6 +38,9 @@ struct ServerCharge {
 struct Server {
     reservation: Option<ServerReservation>,
     charge: Option<ServerCharge>,
+
+    /// The last start behind that charge.
+    start: Option<ServerStart>,
 }
 
 /// What a line shows of a server.
@@ -53,6 +56,7 @@ struct ShownServer {
 const NEW: Server = Server {
     reservation: None,
     charge: None,
+    start: None,
 };
 
 /// The fair servers by their CPUs.
@@ -90,6 +94,19 @@ impl Servers {
             server.reservation = Some(ServerReservation {
                 dl_runtime,
                 dl_period,
+            });
+        }
+        Ok(())
+    }
+
+    /// A fair server starts.
+    pub fn start(&mut self, line: &ServerStarted) -> Result<(), AllocError> {
+        self.see(line.cpu, line.dl_runtime, line.dl_period)?;
+        if let Some(server) = self.get_mut(line.cpu)? {
+            server.start = Some(ServerStart {
+                clock: line.clock,
+                dl_runtime: line.dl_runtime,
+                dl_period: line.dl_period,
             });
         }
         Ok(())
@@ -169,9 +186,10 @@ impl Servers {
         if let Some(charge) = server.charge
             && charge.deadline == shown.deadline
         {
-            judge_charge(judged, read, shown, charge)?;
+            judge_charge(judged, read, shown, charge, server.start)?;
         }
         if let Some(server) = self.get_mut(shown.cpu)? {
+            server.start = None;
             server.charge = match nanos {
                 Some(nanos) if nanos != 0 => Some(ServerCharge {
                     budget: shown.budget,
@@ -218,20 +236,38 @@ fn judge_reservation(
     judge_server(judged, read, shown, is_right, far)
 }
 
-/// The line behind a charge under the same deadline shows what it left.
+/// Whether a charge has left this budget, or a start behind it.
+fn is_what_is_left(shown: ShownServer, charge: ServerCharge, start: Option<ServerStart>) -> bool
+    ensures left { shown.budget ≡ left_by charge.is_idle charge.budget charge.nanos → result ≡ true }
+    ensures lowered { IsLowered start shown.deadline shown.budget → result ≡ true }
+    ensures neither { shown.budget ≢ left_by charge.is_idle charge.budget charge.nanos
+        → ¬ IsLowered start shown.deadline shown.budget
+        → result ≡ false }
+{
+    if is_taken_once(charge.budget, charge.nanos, charge.is_idle, shown.budget) {
+        return true;
+    }
+    is_lowered(start, shown.deadline, shown.budget)
+}
+
+/// The line behind a charge under the same deadline shows what it left, or what a start since then has lowered it to.
 fn judge_charge(
     judged: &mut JudgedLaws,
     read: ReadLine,
     shown: ShownServer,
     charge: ServerCharge,
+    start: Option<ServerStart>,
 ) -> Result<(), AllocError>
     ensures kept { shown.budget ≡ left_by charge.is_idle charge.budget charge.nanos
         → OnOk result (judged.new.tallies ≡ held_in judged.old OfServer) }
+    ensures lowered { IsLowered start shown.deadline shown.budget
+        → OnOk result (judged.new.tallies ≡ held_in judged.old OfServer) }
     ensures broken { shown.budget ≢ left_by charge.is_idle charge.budget charge.nanos
+        → ¬ IsLowered start shown.deadline shown.budget
         → OnOk result (judged.new.tallies ≡ broken_in judged.old (server_broken read shown
         (OtherCharge charge.nanos charge.budget shown.budget))) }
 {
-    let is_right = is_taken_once(charge.budget, charge.nanos, charge.is_idle, shown.budget);
+    let is_right = is_what_is_left(shown, charge, start);
     let other = Finding::OtherCharge {
         nanos: charge.nanos,
         before: charge.budget,

@@ -47,25 +47,22 @@ const NONE: LawTally = LawTally {
     first_known: None,
 };
 
-/// A tally with one value more: the first breach stays the first.
-fn judged(tally: LawTally, judgement: Judgement) -> LawTally
-    ensures { result ≡ judged_with tally judgement }
-{
-    match judgement {
-        Judgement::Holds => LawTally {
-            held: tally.held.saturating_add(1),
-            ..tally
-        },
-        Judgement::Breaks(breach) => LawTally {
-            broken: tally.broken.saturating_add(1),
-            first: first_of(tally.first, breach),
-            ..tally
-        },
-        Judgement::Known(breach) => LawTally {
-            known: tally.known.saturating_add(1),
-            first_known: first_of(tally.first_known, breach),
-            ..tally
-        },
+impl LawTally {
+    /// Counts a value more: the first breach stays the first.
+    fn judge(&mut self, judgement: Judgement)
+        ensures { self.new ≡ judged_with self.old judgement }
+    {
+        match judgement {
+            Judgement::Holds => self.held = self.held.saturating_add(1),
+            Judgement::Breaks(breach) => {
+                self.broken = self.broken.saturating_add(1);
+                self.first = first_of(self.first, breach);
+            }
+            Judgement::Known(breach) => {
+                self.known = self.known.saturating_add(1);
+                self.first_known = first_of(self.first_known, breach);
+            }
+        }
     }
 }
 
@@ -117,15 +114,15 @@ impl LawTallies {
         ensures { self.new ≡ judged_in self.old law judgement }
     {
         match law {
-            Law::Progress => self.progress = judged(self.progress, judgement),
-            Law::Expiry => self.expiry = judged(self.expiry, judgement),
-            Law::Firing => self.firing = judged(self.firing, judgement),
-            Law::ZeroLag => self.zero_lag = judged(self.zero_lag, judgement),
-            Law::Budget => self.budget = judged(self.budget, judgement),
-            Law::Total => self.total = judged(self.total, judgement),
-            Law::Pick => self.pick = judged(self.pick, judgement),
-            Law::Run => self.run = judged(self.run, judgement),
-            Law::Server => self.server = judged(self.server, judgement),
+            Law::Progress => self.progress.judge(judgement),
+            Law::Expiry => self.expiry.judge(judgement),
+            Law::Firing => self.firing.judge(judgement),
+            Law::ZeroLag => self.zero_lag.judge(judgement),
+            Law::Budget => self.budget.judge(judgement),
+            Law::Total => self.total.judge(judgement),
+            Law::Pick => self.pick.judge(judgement),
+            Law::Run => self.run.judge(judgement),
+            Law::Server => self.server.judge(judgement),
         }
     }
 

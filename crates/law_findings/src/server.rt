@@ -1,9 +1,20 @@
 //! The server: a fair server's budget is at most its runtime, and its deadline at most a period and a runtime away
 //! (Lipari and Baruah 2000).
 
-ghost use Rattle.std.specs.Prelude.{◌≡◌, ◌↔◌, IsTrue, pos};
+ghost use Rattle.std.specs.Prelude.{◌≡◌, ◌↔◌, ◌<◌, IsTrue, pos};
 ghost use Rattle.std.specs.Int.{int_max, int_min};
-ghost use Rattle.law_findings.specs.Server.{IsNear, left_by, taken_of};
+ghost use Rattle.law_findings.specs.Server.{IsLowered, IsNear, left_by, share_until, taken_of};
+
+/// Parts of a whole bandwidth.
+const WHOLE: u128 = 1_048_576;
+
+/// A start of a fair server: the clock of its runqueue, and its reservation, in nanoseconds.
+#[derive(Clone, Copy)]
+pub struct ServerStart {
+    pub clock: u64,
+    pub dl_runtime: u64,
+    pub dl_period: u64,
+}
 
 /// What is left of a budget where so many nanoseconds are taken once and in full.
 fn taken(before: i64, nanos: i64) -> i128
@@ -36,6 +47,29 @@ pub fn is_taken_once(before: i64, nanos: i64, is_idle: bool, after: i64) -> bool
     ensures { IsTrue result ↔ (after ≡ left_by is_idle before nanos) }
 {
     i128::from(after) == left(is_idle, before, nanos)
+}
+
+/// Whether this is the server's share of the time from its start to this deadline.
+fn is_share(start: ServerStart, deadline: u64, after: i64) -> bool
+    requires { 0 < start.dl_period }
+    ensures { IsTrue result ↔ (after ≡ pos (share_until deadline start)) }
+{
+    let bandwidth = u128::from(start.dl_runtime) * WHOLE / u128::from(start.dl_period);
+    let rest = u128::from(deadline.saturating_sub(start.clock));
+    match (bandwidth.checked_mul(rest), u64::try_from(after)) {
+        (Some(product), Ok(after)) => u128::from(after) == product / WHOLE,
+        _ => false,
+    }
+}
+
+/// Whether this budget is what a start under the same deadline may lower one to: the server's share of the time up to the deadline.
+pub fn is_lowered(start: Option<ServerStart>, deadline: u64, after: i64) -> bool
+    ensures { IsTrue result ↔ IsLowered start deadline after }
+{
+    match start {
+        Some(start) => start.dl_period > 0 && is_share(start, deadline, after),
+        None => false,
+    }
 }
 
 /// Whether a deadline is at most a period and a runtime behind the clock. Spans are nanoseconds.

@@ -162,7 +162,7 @@ impl LawPlay {
             Probe::ServerStarted(line) => {
                 self.other_line(read.cpu);
                 self.see_sums(read, LineKind::ServerStart, line.cpu, line.clock, line.sums)?;
-                self.servers.see(line.cpu, line.dl_runtime, line.dl_period)
+                self.servers.start(line)
             }
             Probe::ServerStopped(line) => {
                 self.other_line(read.cpu);

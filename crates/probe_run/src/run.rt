@@ -108,25 +108,3 @@ impl Run {
         })
     }
 }
-
-#[cfg(test)]
-mod tests {
-    use super::*;
-    use std::test::Fail;
-
-    #[test]
-    fn nothing_differs_at_first(rt: HostRuntime) -> Result<(), Fail> {
-        let alloc = rt.alloc();
-        let run = Run::new(
-            alloc,
-            RunStart {
-                processors: Vec::new(alloc),
-                starts: Vec::new(alloc),
-                amid_until: 0,
-            },
-            false,
-        )?;
-        assert!(rt; run.agrees());
-        Ok(())
-    }
-}

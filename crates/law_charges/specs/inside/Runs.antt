@@ -44,4 +44,4 @@ abbrev pub put_on_at : Switch → ℤ → ℕ
 put_on_at s lag = less s.at (cast_unsigned w64 lag)
 
 abbrev pub unknown_server : Server
-unknown_server = record { reservation = None; charge = None }
+unknown_server = record { reservation = None; charge = None; start = None }

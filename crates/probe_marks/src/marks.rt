@@ -1,10 +1,17 @@
-//! Marks of a record: functions that change sums by no rule of a task.
+//! The marks of a record, by their kinds.
 
-use check_report::MarkCount;
-use probe_explain::ProbeLine;
+use probe_findings::{ProbedFunction, ProbedLine};
 use probe_verdict::event_name;
 use std::alloc::{AllocError, Global};
 use trace_data::{Mark, Probe};
+
+/// The marks of one kind: how many there are, and the first line that shows one.
+#[derive(Clone, Copy)]
+pub struct MarkCount {
+    pub event: ProbedFunction,
+    pub count: u64,
+    pub first: u64,
+}
 
 /// The marks of a record so far.
 #[derive(Drop)]
@@ -22,6 +29,7 @@ fn may_change_sums(probe: &Probe) -> bool {
 }
 
 impl Marks {
+    /// No mark was seen.
     pub fn new(alloc: Global) -> Marks {
         Marks {
             counts: Vec::new(alloc),
@@ -33,12 +41,12 @@ impl Marks {
         &self.counts
     }
 
-    /// Takes a line.
-    pub fn see(&mut self, line: &ProbeLine) -> Result<(), AllocError> {
-        if !may_change_sums(&line.probe) {
+    /// Takes what a line shows.
+    pub fn see(&mut self, place: ProbedLine, probe: &Probe) -> Result<(), AllocError> {
+        if !may_change_sums(probe) {
             return Ok(());
         }
-        let name = event_name(line.place.event);
+        let name = event_name(place.event);
         for kept in self.counts.iter_mut() {
             if event_name(kept.event) == name {
                 kept.count = kept.count.saturating_add(1);
@@ -46,9 +54,9 @@ impl Marks {
             }
         }
         self.counts.push(MarkCount {
-            event: line.place.event,
+            event: place.event,
             count: 1,
-            first: line.place.line,
+            first: place.line,
         })?;
         Ok(())
     }

@@ -1,0 +1,5 @@
+//! Tests of probe_run and probe_explain.
+#![tactic(auto)]
+
+#[cfg(test)]
+mod tests;
