@@ -5,7 +5,7 @@ use law_play::LawPlay;
 use law_timers::TimerLaws;
 use std::alloc::{AllocError, Global};
 use task_figures::FigureLines;
-use trace_data::{Kernel, Probe, Said};
+use trace_data::{Fixed, Kernel, Probe, Said};
 
 /// What became of the laws in a record, and what is told beside them.
 #[derive(Drop)]
@@ -66,16 +66,24 @@ impl RecordLaws {
         self.take_timers(kernel, read, said)?;
         match &mut self.play {
             Some(play) => play.take(read, said),
-            None => {
-                let mut play = LawPlay::new(self.alloc, kernel, self.asked, self.keeps_breaches);
-                if self.has_domains {
-                    play.part_domains();
-                }
-                let taken = play.take(read, said);
-                self.play = Some(play);
-                taken
-            }
+            None => self.take_first(kernel, read, said),
         }
+    }
+
+    /// Takes the first line of an event.
+    fn take_first(
+        &mut self,
+        kernel: Option<Kernel>,
+        read: ReadLine,
+        said: &Said,
+    ) -> Result<(), AllocError> {
+        let mut play = LawPlay::new(self.alloc, kernel, self.asked, self.keeps_breaches);
+        if self.has_domains {
+            play.part_domains();
+        }
+        let taken = play.take(read, said);
+        self.play = Some(play);
+        taken
     }
 
     /// Lines of probes show more than lines of timers: from the first of them on these are not needed. Marks stand in both records.
@@ -88,17 +96,7 @@ impl RecordLaws {
         match said {
             Said::Fixed(fixed) if !self.has_probes => match &mut self.timers {
                 Some(timers) => timers.take(read, fixed),
-                None => {
-                    let mut timers = TimerLaws::new(
-                        self.alloc,
-                        kernel,
-                        self.asked,
-                        self.keeps_breaches,
-                    );
-                    let taken = timers.take(read, fixed);
-                    self.timers = Some(timers);
-                    taken
-                }
+                None => self.take_first_timers(kernel, read, fixed),
             },
             Said::Fixed(_) => Ok(()),
             Said::Probe(Probe::Mark(_)) => {
@@ -113,6 +111,19 @@ impl RecordLaws {
                 Ok(())
             }
         }
+    }
+
+    /// Takes the first line of timers.
+    fn take_first_timers(
+        &mut self,
+        kernel: Option<Kernel>,
+        read: ReadLine,
+        fixed: &Fixed,
+    ) -> Result<(), AllocError> {
+        let mut timers = TimerLaws::new(self.alloc, kernel, self.asked, self.keeps_breaches);
+        let taken = timers.take(read, fixed);
+        self.timers = Some(timers);
+        taken
     }
 
     /// Takes the end of the record: what became of the laws, by its lines of probes, or else by those of timers.

@@ -32,7 +32,7 @@ differs c Addresses = not_zero (differing (counted_of c Addresses false)) (omega
 differs c Choices = not_zero (differing (counted_of c Choices false)) (omega (arith, some c.choices.differ))
 differs c Laws = not_zero (differing (counted_of c Laws false)) (omega (arith, some c.laws.differ))
 
-equal : (c : KindCounts) (k : QuantityKind) → none_differs (counted_of c k true) ≡ none_differs c
+pub equal : (c : KindCounts) (k : QuantityKind) → none_differs (counted_of c k true) ≡ none_differs c
 equal c Budget = refl
 equal c Deadline = refl
 equal c Flags = refl

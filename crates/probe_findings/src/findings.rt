@@ -6,7 +6,7 @@ ghost use Rattle.probe_findings.specs.Tallies.{counted_of, none_differs};
 ghost use Rattle.probe_findings.specs.Firsts.{first_with};
 
 use crate::counts::{KindCounts, RuleCounts};
-use crate::words::{Comparison, Deviation, ExactRule, Why, kind_of};
+use crate::words::{Comparison, Deviation, ExactRule, Quantity, Why, kind_of};
 use std::alloc::{AllocError, Global};
 
 /// Counts, the first deviation, and rows of a table.
@@ -61,6 +61,21 @@ impl Findings {
         self.mark(line, is_early);
         self.tell(Deviation { comparison, since });
         Ok(())
+    }
+
+    /// Whether each comparison is kept as a row of a table.
+    pub fn keeps_rows(&self) -> bool {
+        self.keeps_rows
+    }
+
+    /// Counts a comparison that is equal, and of which no row is kept.
+    #[tactic(auto, using(crate::proofs::Counting::equal))]
+    pub fn add_equal(&mut self, quantity: Quantity)
+        ensures counts { self.new.counts ≡ counted_of self.old.counts (kind_by quantity) true }
+        ensures first { self.new.first ≡ self.old.first }
+        ensures rules { self.new.rules ≡ self.old.rules }
+    {
+        self.counts.add(kind_of(quantity), true);
     }
 
     /// Keeps the row of a comparison where rows are wanted.

@@ -43,6 +43,10 @@ impl Run {
             rules,
             kernel,
         } = value;
+        if is_equal && !self.findings.keeps_rows() {
+            self.findings.add_equal(quantity);
+            return self.see_right(of, place.line, true);
+        }
         let since = self.why(of);
         let subject = self.subject(of);
         if !is_equal {
