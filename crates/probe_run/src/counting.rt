@@ -4,9 +4,7 @@ ghost use Rattle.std.specs.Prelude.{◌≡◌, OnOk, false};
 ghost use Rattle.probe_run.specs.Runs.{state_of};
 ghost use Rattle.probe_run.specs.Counting.{Holds};
 
-use crate::notes::{
-    Counted, EntityNotes, FirstNotes, LastCharge, NO_NOTES, NO_RIGHTS, SumNotes, UNKNOWN,
-};
+use crate::notes::{Counted, EntityNotes, FirstNotes, LastCharge, NO_NOTES, SumNotes, UNKNOWN};
 use crate::run::Run;
 use probe_findings::{
     Comparison, ExactRule, ExactValue, FIRST_SEEN, ProbedLine, Quantity, Subject, Whose, Why,
@@ -186,21 +184,11 @@ impl Run {
     }
 
     fn sum_note(&self, of: u64, is_domain: bool) -> SumNotes {
-        let none = SumNotes {
-            of,
-            is_domain,
-            why: FIRST_SEEN,
-            why_unlocked: FIRST_SEEN,
-            rights: NO_RIGHTS,
-            unlocked_rights: NO_RIGHTS,
-        };
-        match self.sum_note_place(of, is_domain) {
-            Some(place) => match self.sum_notes.get(place) {
-                Some(notes) => *notes,
-                None => none,
-            },
-            None => none,
-        }
+        self.sum_notes
+            .iter()
+            .find(|one| one.of == of && one.is_domain == is_domain)
+            .copied()
+            .unwrap_or(SumNotes::new(of, is_domain))
     }
 
     fn see_right(&mut self, of: Counted, line: u64, is_equal: bool) -> Result<(), AllocError>
@@ -232,26 +220,16 @@ impl Run {
     ) -> Result<(), AllocError>
         ensures { state_of self.new ≡ state_of self.old }
     {
-        let mut notes = self.sum_note(of, is_domain);
-        if is_unlocked {
-            notes.unlocked_rights.add(line);
-        } else {
-            notes.rights.add(line);
-        }
-        self.keep_sum_note(notes)
-    }
-
-    fn keep_sum_note(&mut self, notes: SumNotes) -> Result<(), AllocError>
-        ensures { state_of self.new ≡ state_of self.old }
-    {
-        match self.sum_note_place(notes.of, notes.is_domain) {
+        match self.sum_note_place(of, is_domain) {
             Some(place) => {
-                if let Some(kept) = self.sum_notes.get_mut(place) {
-                    *kept = notes;
+                if let Some(notes) = self.sum_notes.get_mut(place) {
+                    notes.see_right(is_unlocked, line);
                 }
                 Ok(())
             }
             None => {
+                let mut notes = SumNotes::new(of, is_domain);
+                notes.see_right(is_unlocked, line);
                 self.sum_notes.push(notes)?;
                 Ok(())
             }
@@ -311,13 +289,20 @@ impl Run {
     ) -> Result<(), AllocError>
         ensures { state_of self.new ≡ state_of self.old }
     {
-        let mut notes = self.sum_note(of, is_domain);
-        if is_unlocked {
-            notes.why_unlocked = why;
-        } else {
-            notes.why = why;
+        match self.sum_note_place(of, is_domain) {
+            Some(place) => {
+                if let Some(notes) = self.sum_notes.get_mut(place) {
+                    notes.note(is_unlocked, why);
+                }
+                Ok(())
+            }
+            None => {
+                let mut notes = SumNotes::new(of, is_domain);
+                notes.note(is_unlocked, why);
+                self.sum_notes.push(notes)?;
+                Ok(())
+            }
         }
-        self.keep_sum_note(notes)
     }
 
     /// Notes the numbers that went into a charge.

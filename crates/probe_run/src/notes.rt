@@ -55,6 +55,38 @@ pub struct SumNotes {
     pub unlocked_rights: Rights,
 }
 
+impl SumNotes {
+    /// Of a runqueue or a root domain of which nothing was seen.
+    pub(crate) fn new(of: u64, is_domain: bool) -> SumNotes {
+        SumNotes {
+            of,
+            is_domain,
+            why: FIRST_SEEN,
+            why_unlocked: FIRST_SEEN,
+            rights: NO_RIGHTS,
+            unlocked_rights: NO_RIGHTS,
+        }
+    }
+
+    /// Sums were right at this line: `extra_bw` or `total_bw`, or those with a lock.
+    pub(crate) fn see_right(&mut self, is_unlocked: bool, line: u64) {
+        if is_unlocked {
+            self.unlocked_rights.add(line);
+        } else {
+            self.rights.add(line);
+        }
+    }
+
+    /// What changed sums last: `extra_bw` or `total_bw`, or those with a lock.
+    pub(crate) fn note(&mut self, is_unlocked: bool, why: Why) {
+        if is_unlocked {
+            self.why_unlocked = why;
+        } else {
+            self.why = why;
+        }
+    }
+}
+
 /// What is told of the first value that differs.
 #[derive(Clone, Copy)]
 pub struct FirstNotes {
