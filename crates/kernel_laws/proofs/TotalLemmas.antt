@@ -11,20 +11,20 @@ use Rattle.kernel_entity.specs.declared.activity.Block.TheVariants.{Unreserved, 
 use Rattle.kernel_entity.specs.Clock.{plus, less, contains_bits}
 use Rattle.kernel_entity.specs.Reservation.{reserved_of, cleared_of}
 use Rattle.kernel_entity.specs.Activity.{blocking_of, blocked_of, blocking_change_of, ends_of}
-use Rattle.kernel_functions.specs.declared.admissions.Admission.TheVariants.{Other, Refused, Same, Changed, Back, New}
-use Rattle.kernel_functions.specs.declared.delays.Delayed.TheVariants.{Moved, ZeroLag}
+use Rattle.kernel_functions.specs.declared.admissions.Admission.TheVariants.{Changed, Back, New}
+use Rattle.kernel_functions.specs.declared.delays.Delayed.TheVariants.{ZeroLag}
 use Rattle.kernel_functions.specs.declared.enqueues.Boost.{Boost}
 use Rattle.kernel_functions.specs.declared.enqueues.Boost.TheVariants.{Ordinary, Boosted, Ends}
 use Rattle.kernel_functions.specs.declared.enqueues.Arrival.{Arrival}
 use Rattle.kernel_functions.specs.declared.enqueues.Arrival.TheVariants.{Stays, Moves, Restores}
 use Rattle.kernel_functions.specs.Admit.{admitting_of, admitting_by, is_queued_of, new_of, still_of, enters_of}
 use Rattle.kernel_functions.specs.Leave.{leaving_of, outside_of, contends_no_more, leaving_change}
-use Rattle.kernel_functions.specs.Dequeue.{dequeuing_of, departing_of, departing_change, sleeping_of, off_of, taken_of}
+use Rattle.kernel_functions.specs.Dequeue.{dequeuing_of, departing_of, departing_change, sleeping_of, off_of}
 use Rattle.kernel_functions.specs.Enqueue.{enqueuing_of, enqueuing_by, boosting_of, arriving_of, arriving_change, waking_up_of}
 use Rattle.kernel_functions.specs.Later.{lock_change_of, after_lock_of}
 use Rattle.kernel_functions.specs.Timer.{is_gone_of}
 use Rattle.kernel_laws.specs.Summing.{counted}
-use Rattle.kernel_laws.specs.Totals.{total_change, bandwidth_by, bandwidth_of, MovesTotal, IsSettled, AdmissionMovesTotal, is_reserved_by, SleepMovesTotal, ZeroLagMovesTotal, LeaveMovesTotal, OthersKeepTotal, Reserving, total_reserved, TotalStays}
+use Rattle.kernel_laws.specs.Totals.{total_change, bandwidth_of, MovesTotal, IsSettled, AdmissionMovesTotal, is_reserved_by, SleepMovesTotal, ZeroLagMovesTotal, LeaveMovesTotal, OthersKeepTotal, Reserving, total_reserved, TotalStays}
 use Rattle.kernel_laws.proofs.MoreSums.{joined, behind, ratio_fits}
 
 stays : (bw : ℕ) → bw < 2 ^ 64 → plus bw (plus (less 0 0) 0) ≡ bw

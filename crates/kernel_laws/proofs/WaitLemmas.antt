@@ -1,5 +1,5 @@
 -- A throttled task has its timer armed.
-use Rattle.std.proofs.Common.{◌≡◌, ℕ, pos, int_le, Bool, true, false, not, ◌&&◌, ◌||◌, if◌then◌else◌, None, is_none, refl}
+use Rattle.std.proofs.Common.{◌≡◌, ℕ, Bool, true, false, not, ◌&&◌, ◌||◌, if◌then◌else◌, is_none, refl}
 use Rattle.kernel_entity.specs.declared.entity.Entity.{Entity}
 use Rattle.kernel_entity.specs.declared.charge.ChargeLaw.{ChargeLaw}
 use Rattle.kernel_entity.specs.declared.budget.Wake.TheVariants.{Kept, Revised, Renewed}
@@ -12,7 +12,7 @@ use Rattle.kernel_entity.specs.declared.flags.TheConstants.{WAKEUP, REPLENISH}
 use Rattle.kernel_entity.specs.Clock.{contains_bits}
 use Rattle.kernel_entity.specs.Reservation.{cleared_of}
 use Rattle.kernel_entity.specs.Budget.{renewed_of, revised_of, replenished_of, replenished_blocked_of, timer_is_ahead}
-use Rattle.kernel_entity.specs.Activity.{contended_of, blocked_of, blocking_of, ends_of}
+use Rattle.kernel_entity.specs.Activity.{contended_of, blocked_of, ends_of}
 use Rattle.trace_data.specs.declared.probe.Enqueued.{Enqueued}
 use Rattle.kernel_functions.specs.declared.runs.Spent.{Spent}
 use Rattle.kernel_functions.specs.declared.runs.Spent.TheVariants.{RunsOn, Throttled, Yielded}
@@ -21,8 +21,8 @@ use Rattle.kernel_functions.specs.declared.enqueues.Boost.TheVariants.{Ordinary,
 use Rattle.kernel_functions.specs.declared.enqueues.Refill.{Refill}
 use Rattle.kernel_functions.specs.declared.enqueues.Refill.TheVariants.{Waits, Stays as RefillStays, Wakes, Replenishes, Restarts}
 use Rattle.kernel_functions.specs.Spend.{is_spent, throttled_of, throttling_of, spending_by, spending_of}
-use Rattle.kernel_functions.specs.Enqueue.{enqueuing_of, enqueuing_by, boosting_of, placed_of, is_constrained_of, constrained_of, arriving_of, arriving_change, waking_up_of, refilling_of, refilled_of}
-use Rattle.kernel_functions.specs.Dequeue.{dequeuing_of, departing_of, departing_change, off_of, taken_of, sleeping_of}
+use Rattle.kernel_functions.specs.Enqueue.{enqueuing_of, enqueuing_by, boosting_of, placed_of, constrained_of, waking_up_of, refilling_of, refilled_of}
+use Rattle.kernel_functions.specs.Dequeue.{dequeuing_of, off_of, taken_of, sleeping_of}
 use Rattle.kernel_functions.specs.Timer.{replenish_fired_of}
 use Rattle.kernel_laws.specs.Waiting.{IsWaited, ChargeWaits, EnqueueWaits, ReturnWaits, DequeueWaits, TimerWaits, ChargeThrottles}
 

@@ -1,5 +1,5 @@
 -- The 0-lag time where no number wraps.
-use Rattle.std.proofs.Common.{◌≡◌, ℕ, ℤ, pos, neg_ℤ, ◌+◌, ◌-◌, ◌%◌, ◌^◌, ◌<◌, ◌<ℤ◌, ◌-ℤ◌, ◌*ℤ◌, ◌==◌, true, false, int_div, FitsSigned, arith, rules, refl, ap, ◌∙◌}
+use Rattle.std.proofs.Common.{◌≡◌, ℕ, ℤ, pos, neg_ℤ, ◌^◌, ◌<◌, ◌-ℤ◌, ◌*ℤ◌, ◌==◌, true, false, int_div, FitsSigned, arith, rules, refl, ap, ◌∙◌}
 use Rattle.std.specs.Int.{w64, cast_unsigned, int_wrapping_mul, int_wrap}
 use Rattle.std.proofs.Math.Dec.{ltb}
 use Rattle.std.proofs.Math.Nat.{mod-lt}
@@ -8,7 +8,7 @@ use Rattle.std.proofs.lemmas.Int.{wrapping_mul_is, int_wrap_fits, quot_fits, fit
 use Rattle.kernel_entity.specs.declared.entity.Entity.{Entity}
 use Rattle.kernel_entity.specs.Clock.{less, signed, quotient_of}
 use Rattle.kernel_entity.specs.Activity.{zero_lag_of}
-use Rattle.kernel_laws.specs.ZeroLag.{exact_zero_lag, IsUnwrapped, ZeroLagIsExact}
+use Rattle.kernel_laws.specs.ZeroLag.{ZeroLagIsExact}
 
 signed_is : (n : ℕ) → n < 2 ^ 63 → signed n ≡ pos n
 signed_is n h =

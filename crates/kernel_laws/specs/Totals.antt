@@ -11,8 +11,7 @@ use Rattle.kernel_entity.specs.declared.activity.Block.{Block}
 use Rattle.kernel_entity.specs.declared.activity.Block.TheVariants.{Unreserved, ZeroLagTimer, Past}
 use Rattle.kernel_entity.specs.Clock.{plus, less, ratio_of, contains_bits}
 use Rattle.kernel_entity.specs.Activity.{blocking_of, ends_of}
-use Rattle.kernel_functions.specs.declared.admissions.Admission.TheVariants.{Other, Refused, Same, Changed, Back, New}
-use Rattle.kernel_functions.specs.declared.delays.Delayed.{Delayed}
+use Rattle.kernel_functions.specs.declared.admissions.Admission.TheVariants.{Other, Refused, Changed, Back, New}
 use Rattle.kernel_functions.specs.declared.delays.Delayed.TheVariants.{Moved, ZeroLag}
 use Rattle.kernel_functions.specs.Admit.{admitting_of, admission_of}
 use Rattle.kernel_functions.specs.Leave.{leaving_of, outside_of}

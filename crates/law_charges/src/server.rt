@@ -10,7 +10,7 @@ ghost use Rattle.law_findings.specs.declared.words.Finding.TheVariants.{OtherCha
 
 use law_findings::{
     Breach, Finding, JudgedLaws, Law, LineKind, ReadLine, ServerStart, Whose, is_lowered, is_near,
-    is_taken_once, is_within, nanos_of,
+    is_taken_once, is_within, left, nanos_of,
 };
 use std::alloc::{AllocError, Global};
 use trace_data::{Picked, ServerIdled, ServerStarted, Updated};
@@ -239,15 +239,17 @@ fn judge_reservation(
 /// Whether a charge has left this budget, or a start behind it.
 fn is_what_is_left(shown: ShownServer, charge: ServerCharge, start: Option<ServerStart>) -> bool
     ensures left { shown.budget ≡ left_by charge.is_idle charge.budget charge.nanos → result ≡ true }
-    ensures lowered { IsLowered start shown.deadline shown.budget → result ≡ true }
+    ensures lowered { IsLowered start shown.deadline (left_by charge.is_idle charge.budget charge.nanos)
+        shown.budget → result ≡ true }
     ensures neither { shown.budget ≢ left_by charge.is_idle charge.budget charge.nanos
-        → ¬ IsLowered start shown.deadline shown.budget
+        → ¬ IsLowered start shown.deadline (left_by charge.is_idle charge.budget charge.nanos) shown.budget
         → result ≡ false }
 {
     if is_taken_once(charge.budget, charge.nanos, charge.is_idle, shown.budget) {
         return true;
     }
-    is_lowered(start, shown.deadline, shown.budget)
+    let left = left(charge.is_idle, charge.budget, charge.nanos);
+    is_lowered(start, shown.deadline, left, shown.budget)
 }
 
 /// The line behind a charge under the same deadline shows what it left, or what a start since then has lowered it to.
@@ -260,10 +262,10 @@ fn judge_charge(
 ) -> Result<(), AllocError>
     ensures kept { shown.budget ≡ left_by charge.is_idle charge.budget charge.nanos
         → OnOk result (judged.new.tallies ≡ held_in judged.old OfServer) }
-    ensures lowered { IsLowered start shown.deadline shown.budget
-        → OnOk result (judged.new.tallies ≡ held_in judged.old OfServer) }
+    ensures lowered { IsLowered start shown.deadline (left_by charge.is_idle charge.budget charge.nanos)
+        shown.budget → OnOk result (judged.new.tallies ≡ held_in judged.old OfServer) }
     ensures broken { shown.budget ≢ left_by charge.is_idle charge.budget charge.nanos
-        → ¬ IsLowered start shown.deadline shown.budget
+        → ¬ IsLowered start shown.deadline (left_by charge.is_idle charge.budget charge.nanos) shown.budget
         → OnOk result (judged.new.tallies ≡ broken_in judged.old (server_broken read shown
         (OtherCharge charge.nanos charge.budget shown.budget))) }
 {

@@ -1,5 +1,5 @@
 -- The server (Lipari and Baruah 2000): the deadline of a fair server is at most a period and a runtime ahead.
-use Rattle.std.specs.Prelude.{ℕ, ℤ, pos, Bool, Option, Some, None, ◌≡◌, ◌+◌, ◌*◌, ◌/◌, ◌<◌, ◌≤◌, ◌-◌, ◌-ℤ◌, if◌then◌else◌}
+use Rattle.std.specs.Prelude.{ℕ, ℤ, pos, Bool, Option, Some, None, ◌≡◌, ◌+◌, ◌*◌, ◌/◌, ◌<◌, ◌≤◌, ◌-◌, ◌-ℤ◌, ◌≤ℤ◌, if◌then◌else◌}
 use Rattle.std.specs.Int.{int_max, int_min}
 use Rattle.law_findings.specs.declared.server.ServerStart.{ServerStart}
 
@@ -20,6 +20,7 @@ left_by is_idle before nanos =
 abbrev pub share_until : ℕ → ServerStart → ℕ
 share_until deadline s = s.dl_runtime * 1048576 / s.dl_period * (deadline - s.clock) / 1048576
 
-abbrev pub IsLowered : Option ServerStart → ℕ → ℤ → Type 0
-IsLowered None deadline after = ⊥
-IsLowered (Some s) deadline after = (0 < s.dl_period) × (after ≡ pos (share_until deadline s))
+-- a start lowers what a charge has left to the server's share, and raises it never
+abbrev pub IsLowered : Option ServerStart → ℕ → ℤ → ℤ → Type 0
+IsLowered None deadline left after = ⊥
+IsLowered (Some s) deadline left after = (0 < s.dl_period) × (after ≤ℤ left) × (after ≡ pos (share_until deadline s))

@@ -1,6 +1,6 @@
 -- The 0-lag time (Lipari and Baruah 2000; sched-deadline.rst 2.2): deadline - budget * period / runtime, in exact numbers. A task
 -- that blocks before it stays active until then, by a timer; one that blocks behind it is inactive at once, without a timer.
-use Rattle.std.specs.Prelude.{ℕ, ℤ, pos, neg_ℤ, ◌^◌, ◌⊎◌, ◌-ℤ◌, ◌*ℤ◌, ◌<ℤ◌, ◌≤ℤ◌, int_div}
+use Rattle.std.specs.Prelude.{ℤ, pos, neg_ℤ, ◌^◌, ◌⊎◌, ◌-ℤ◌, ◌*ℤ◌, ◌<ℤ◌, ◌≤ℤ◌, int_div}
 use Rattle.law_findings.specs.declared.zero_lag.Blocked.{Blocked}
 
 -- for how long the budget lasts at the reserved rate

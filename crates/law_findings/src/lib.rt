@@ -28,7 +28,7 @@ pub use known::{Sign, is_known};
 pub use pick::{LowerRun, Queued, is_pick_right, is_run_short, is_tick_counted};
 pub use progress::{Throttled, is_waited_for};
 pub use run::{begins_at_switch, is_apart, nanos_of};
-pub use server::{ServerStart, is_lowered, is_near, is_taken_once};
+pub use server::{ServerStart, is_lowered, is_near, is_taken_once, left};
 pub use spread::spread_of;
 pub use total::{bandwidth, is_not_negative};
 pub use words::{

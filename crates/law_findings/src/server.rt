@@ -30,8 +30,8 @@ fn idled(before: i64, nanos: i64) -> i128
     taken(before, nanos).max(i128::from(before.min(0)))
 }
 
-/// What a charge of so many nanoseconds leaves of a budget.
-fn left(is_idle: bool, before: i64, nanos: i64) -> i128
+/// What a charge of so many nanoseconds leaves of a budget; idle time takes it down to 0 at most, and leaves one below 0.
+pub fn left(is_idle: bool, before: i64, nanos: i64) -> i128
     ensures { result ≡ left_by is_idle before nanos }
 {
     if is_idle {
@@ -62,12 +62,14 @@ fn is_share(start: ServerStart, deadline: u64, after: i64) -> bool
     }
 }
 
-/// Whether this budget is what a start under the same deadline may lower one to: the server's share of the time up to the deadline.
-pub fn is_lowered(start: Option<ServerStart>, deadline: u64, after: i64) -> bool
-    ensures { IsTrue result ↔ IsLowered start deadline after }
+/// Whether a start under this deadline has lowered what was left of a budget to the server's share of the time up to the deadline.
+pub fn is_lowered(start: Option<ServerStart>, deadline: u64, left: i128, after: i64) -> bool
+    ensures { IsTrue result ↔ IsLowered start deadline left after }
 {
     match start {
-        Some(start) => start.dl_period > 0 && is_share(start, deadline, after),
+        Some(start) => {
+            start.dl_period > 0 && i128::from(after) <= left && is_share(start, deadline, after)
+        }
         None => false,
     }
 }
