@@ -22,6 +22,7 @@ fn outside(entity: Entity) -> Entity
 {
     Entity {
         is_in_class: false,
+        is_queued: false,
         ..entity
     }
 }
