@@ -1,7 +1,8 @@
 //! Numbers as words spell them, where they fit 64 bits.
 
-ghost use Rattle.std.specs.Prelude.{◌≡◌, ◌≤◌, option_map};
+ghost use Rattle.std.specs.Prelude.{◌≡◌, ◌≤◌, IsTrue, length, option_map, take};
 ghost use Rattle.std.specs.Char.{digit_value};
+ghost use Rattle.std.specs.Str.{bytes_eq};
 ghost use Rattle.trace_probes.specs.Numerals.{after, digits_from, negative, numeral, positive, pushed, signed, unsigned};
 ghost use Rattle.trace_probes.specs.inside.Texts.{text_of};
 
@@ -29,6 +30,43 @@ fn pushed(radix: u64, value: u64, byte: u8) -> Option<u64>
     }
 }
 
+/// The same of a decimal number: below this no digit more makes it too great.
+const FEW: u64 = 1844674407370955161;
+
+fn pushed_decimal(value: u64, byte: u8) -> Option<u64>
+    ensures { result ≡ pushed 10 value byte }
+{
+    let digit = digit(byte);
+    if digit < 10 && value < FEW {
+        Some(value * 10 + digit)
+    } else {
+        pushed(10, value, byte)
+    }
+}
+
+fn decimal_digits(text: &[u8]) -> Option<u64>
+    ensures { result ≡ digits_from 10 0 text.now }
+{
+    let mut value = 0;
+    for byte in text {
+        match pushed_decimal(value, *byte) {
+            None => return None,
+            Some(more) => value = more,
+        }
+    }
+    Some(value)
+}
+
+fn decimal(word: &[u8]) -> Option<u64>
+    ensures { result ≡ numeral 10 word.now }
+{
+    if word.is_empty() {
+        None
+    } else {
+        decimal_digits(word)
+    }
+}
+
 fn digits(radix: u64, text: &[u8]) -> Option<u64>
     ensures { result ≡ digits_from radix 0 text.now }
 {
@@ -53,10 +91,28 @@ pub fn numeral(radix: u64, word: &[u8]) -> Option<u64>
     }
 }
 
+/// Whether a word begins with a key. Keys are short, and most differ soon.
+pub(crate) fn begins(key: &[u8], word: &[u8]) -> bool
+    ensures is { result ≡ bytes_eq (take (length key.now) word.now) key.now }
+    ensures fits { IsTrue result → length key.now ≤ length word.now }
+{
+    match key {
+        [] => true,
+        [wanted, keys @ ..] => match word {
+            [] => false,
+            [byte, rest @ ..] => *byte == *wanted && begins(keys, rest),
+        },
+    }
+}
+
 fn after<'a>(key: &[u8], word: &'a [u8]) -> Option<&'a [u8]>
     ensures { option_map text_of result ≡ after key.now word.now }
 {
-    word.strip_prefix(key)
+    if begins(key, word) {
+        Some(&word[key.len()..])
+    } else {
+        None
+    }
 }
 
 /// The number of a word of decimal digits, or of `0x` and hexadecimal ones.
@@ -64,7 +120,7 @@ pub fn unsigned(word: &[u8]) -> Option<u64>
     ensures { result ≡ unsigned word.now }
 {
     match after(b"0x", word) {
-        None => numeral(10, word),
+        None => decimal(word),
         Some(digits) => numeral(16, digits),
     }
 }
@@ -95,6 +151,6 @@ pub fn signed(word: &[u8]) -> Option<i64>
 {
     match after(b"-", word) {
         None => positive(unsigned(word)?),
-        Some(digits) => negative(numeral(10, digits)?),
+        Some(digits) => negative(decimal(digits)?),
     }
 }

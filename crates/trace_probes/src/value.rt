@@ -12,13 +12,13 @@ use trace_data::TimerFunction;
 /// The value of a field.
 #[derive(Clone, Copy)]
 pub enum FieldValue {
+    /// The line does not show it.
+    Absent,
+
     Unsigned(u64),
     Signed(i64),
     Flag(bool),
     Function(TimerFunction),
-
-    /// The line does not show it.
-    Absent,
 }
 
 fn plus_in(symbol: &[u8]) -> Option<usize>

@@ -6,6 +6,7 @@ ghost use Rattle.trace_probes.specs.Tables.{cpu_at, flag_at, function_at, no_val
 ghost use Rattle.trace_probes.specs.inside.Texts.{next_text, words_left};
 
 use crate::field::{FIELDS, Field, FieldKind, key_of, kind_of, place_of};
+use crate::numerals::begins;
 use crate::value::{FieldValue, value_of};
 use text_bytes::first_word;
 use trace_data::TimerFunction;
@@ -16,6 +17,9 @@ pub struct Values {
     pub items: [FieldValue; FIELDS],
 }
 
+/// No value yet.
+const NO_VALUES: [FieldValue; FIELDS] = [FieldValue::Absent; FIELDS];
+
 /// The value of a field in the first word that has its key, and what stands behind that word.
 fn next_value<'a>(field: Field, words: Option<&'a [u8]>) -> Option<(FieldValue, Option<&'a [u8]>)>
     ensures { option_map next_text result ≡ next_value field (words_left words.entry) }
@@ -24,8 +28,8 @@ fn next_value<'a>(field: Field, words: Option<&'a [u8]>) -> Option<(FieldValue, 
     let mut left = words;
     while let Some(text) = left {
         let (word, rest) = first_word(text);
-        if let Some(value) = word.strip_prefix(key) {
-            let value = value_of(kind_of(field), value)?;
+        if begins(key, word) {
+            let value = value_of(kind_of(field), &word[key.len()..])?;
             return Some((value, rest));
         }
         left = rest;
@@ -41,7 +45,7 @@ pub(crate) fn has_field(field: Field, words: Option<&[u8]>) -> bool
     let mut left = words;
     while let Some(text) = left {
         let (word, rest) = first_word(text);
-        if word.strip_prefix(key).is_some() {
+        if begins(key, word) {
             return true;
         }
         left = rest;
@@ -72,9 +76,7 @@ pub(crate) fn values_of(fields: &[Field], text: &[u8]) -> Option<Values>
     ensures { option_map (λ (v : Values). v.items) result
         ≡ values_with fields.now no_values (words_left (Some text.entry)) }
 {
-    let mut values = Values {
-        items: [FieldValue::Absent; FIELDS],
-    };
+    let mut values = Values { items: NO_VALUES };
     let mut left = Some(text);
     for field in fields {
         let (value, rest) = value_next(*field, left)?;
