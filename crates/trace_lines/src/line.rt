@@ -6,7 +6,7 @@ ghost use Rattle.memchr.specs.Find.{is_byte};
 ghost use Rattle.trace_fields.specs.Head.{is_lost};
 ghost use Rattle.trace_fields.specs.Opening.{opening_of};
 ghost use Rattle.trace_fields.specs.inside.OpeningFits.{StartsWithin};
-ghost use Rattle.trace_lines.specs.Lines.{checked, comment_line, event_line, fixed_cpu, flaw_of, grain_behind, grain_of, head_line, line_behind, mark_cpu, note_cpu, note_line, noted_line, other_line, probe_cpu, probed, said_by, said_cpu, told_by, told_line, told_said};
+ghost use Rattle.trace_lines.specs.Lines.{checked, comment_line, event_line, fixed_cpu, flaw_of, grain_behind, grain_of, head_line, line_behind, mark_cpu, note_cpu, note_line, noted_line, other_line, probe_cpu, probed, said_by, said_cpu, said_or_bad, told_by, told_line, told_said};
 ghost use Rattle.trace_lines.specs.inside.Texts.{named_text, noted_text};
 ghost use Rattle.trace_lines.specs.ToldTexts.{told_text};
 
@@ -75,6 +75,15 @@ fn told_line<'a>(line: RecordLine) -> ToldLine<&'a [u8]>
         change: None,
         scheduled: None,
     }
+}
+
+/// A line that cannot be read.
+#[cold]
+#[inline(never)]
+fn flawed_line<'a>(flaw: Flaw) -> ToldLine<&'a [u8]>
+    ensures { told_text result ≡ told_line (RecordLine.Flawed flaw) }
+{
+    told_line(RecordLine::Flawed(flaw))
 }
 
 fn note_cpu(note: &TraceNote) -> u32
@@ -190,6 +199,7 @@ fn noted_line<'a>(line: &'a [u8], noted: Noted<&'a [u8]>) -> ToldLine<&'a [u8]>
 }
 
 /// What a line tells that begins with `#`.
+#[inline(never)]
 fn comment_line(line: &[u8]) -> ToldLine<&[u8]>
     ensures { told_text result ≡ comment_line line.now }
 {
@@ -254,7 +264,7 @@ fn mark_cpu(mark: &Mark) -> u32
 fn probe_cpu(probe: &Probe) -> u32
     ensures { result ≡ probe_cpu probe.now }
 {
-    match *probe {
+    match probe {
         Probe::Enqueued(enqueued) => enqueued.cpu,
         Probe::Updated(updated) => updated.cpu,
         Probe::Dequeued(dequeued) => dequeued.cpu,
@@ -264,7 +274,7 @@ fn probe_cpu(probe: &Probe) -> u32
         Probe::Picked(picked) => picked.cpu,
         Probe::ServerStopped(stopped) => stopped.cpu,
         Probe::ServerIdled(idled) => idled.cpu,
-        Probe::Mark(mark) => mark_cpu(&mark),
+        Probe::Mark(mark) => mark_cpu(mark),
         _ => 0,
     }
 }
@@ -362,6 +372,55 @@ fn checked<'a>(
     }
 }
 
+/// What a line of a probe tells. Most lines of a record are of probes, and what they show is large: it is built once.
+#[inline(never)]
+fn probe_line<'a>(
+    line: &'a [u8],
+    opening: Opening,
+    event: ProbeEvent,
+    fields: &'a [u8],
+) -> ToldLine<&'a [u8]>
+    requires cpu { StartsWithin opening.cpu (length line.now) }
+    requires end { opening.end ≤ length line.now }
+    ensures { told_text result
+        ≡ said_or_bad (told_said line.now opening (Verb.Probe event) fields.now) }
+{
+    let Some(cpu) = opening.cpu else {
+        return flawed_line(Flaw::BadTraceLine);
+    };
+    let front = &line[..cpu.start];
+    let Some(pid) = running(front) else {
+        return flawed_line(Flaw::BadTraceLine);
+    };
+    let Some(probe) = probe_of(event, fields) else {
+        return flawed_line(Flaw::BadTraceLine);
+    };
+    if cpu.cpu.max(probe_cpu(&probe)) >= CPUS {
+        return flawed_line(Flaw::TooLong);
+    }
+    ToldLine {
+        line: RecordLine::Event {
+            at: opening.at,
+            grain: grain_of(&line[..opening.end]),
+            cpu: cpu.cpu,
+            pid,
+            said: Said::Probe(probe),
+        },
+        shown: Some(Shown {
+            comm: running_comm(front),
+            pid,
+        }),
+        domain: None,
+        release: None,
+        lost: None,
+        processors: None,
+        warning: None,
+        governor: None,
+        change: None,
+        scheduled: None,
+    }
+}
+
 /// What a line of an event tells; none where its CPU, the task that runs or a field is missing or wrong.
 fn told_said<'a>(
     line: &'a [u8],
@@ -381,7 +440,26 @@ fn told_said<'a>(
     Some(checked(opening.at, grain, cpu.cpu, pid, named))
 }
 
+/// What a line of an event tells, whether it can be read or not.
+#[inline(never)]
+fn said_line<'a>(
+    line: &'a [u8],
+    opening: Opening,
+    verb: Verb,
+    fields: &'a [u8],
+) -> ToldLine<&'a [u8]>
+    requires cpu { StartsWithin opening.cpu (length line.now) }
+    requires end { opening.end ≤ length line.now }
+    ensures { told_text result ≡ said_or_bad (told_said line.now opening verb fields.now) }
+{
+    match told_said(line, opening, verb, fields) {
+        None => flawed_line(Flaw::BadTraceLine),
+        Some(told) => told,
+    }
+}
+
 /// What a line tells that is of none of the events of `Verb`.
+#[inline(never)]
 fn other_line<'a>(opening: Opening, word: &[u8], fields: &'a [u8]) -> ToldLine<&'a [u8]>
     ensures { told_text result ≡ other_line opening word.now fields.now }
 {
@@ -414,18 +492,24 @@ fn line_behind<'a>(line: &'a [u8], opening: Opening, text: &'a [u8]) -> ToldLine
     let fields = &text[word.len()..];
     match verb_of(word) {
         None => other_line(opening, word, fields),
-        Some(verb) => match told_said(line, opening, verb, fields) {
-            None => told_line(RecordLine::Flawed(Flaw::BadTraceLine)),
-            Some(told) => told,
-        },
+        Some(Verb::Probe(event)) => probe_line(line, opening, event, fields),
+        Some(verb) => said_line(line, opening, verb, fields),
     }
+}
+
+/// A line that says nothing that is read.
+#[inline(never)]
+fn quiet_line<'a>() -> ToldLine<&'a [u8]>
+    ensures { told_text result ≡ told_line RecordLine.Quiet }
+{
+    told_line(RecordLine::Quiet)
 }
 
 fn event_line(line: &[u8]) -> ToldLine<&[u8]>
     ensures { told_text result ≡ event_line line.now (opening_of line.now) }
 {
     match opening_of(line) {
-        None => told_line(RecordLine::Quiet),
+        None => quiet_line(),
         Some(opening) => line_behind(line, opening, without_spaces(&line[opening.end..])),
     }
 }
@@ -454,7 +538,7 @@ pub fn told_by(line: &[u8]) -> ToldLine<&[u8]>
     ensures { told_text result ≡ told_by line.now }
 {
     if tells_loss(line) {
-        told_line(RecordLine::Flawed(Flaw::LostEvents))
+        flawed_line(Flaw::LostEvents)
     } else if is_comment(line) {
         comment_line(line)
     } else {

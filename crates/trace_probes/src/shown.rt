@@ -165,6 +165,7 @@ pub fn event_named(name: &[u8]) -> Option<ProbeEvent>
     }
 }
 
+#[inline(never)]
 fn show_enqueued(text: &[u8]) -> Option<Probe>
     ensures { result ≡ show_enqueued (words_of text.now) }
 {
@@ -172,6 +173,7 @@ fn show_enqueued(text: &[u8]) -> Option<Probe>
     Some(Probe::Enqueued(enqueued(&values)))
 }
 
+#[inline(never)]
 fn show_updated_by_span(text: &[u8]) -> Option<Probe>
     ensures { result ≡ show_updated_by_span (words_of text.now) }
 {
@@ -183,6 +185,7 @@ fn show_updated_by_span(text: &[u8]) -> Option<Probe>
     Some(Probe::Updated(updated_by(&values, ran)))
 }
 
+#[inline(never)]
 fn show_updated_by_clocks(text: &[u8]) -> Option<Probe>
     ensures { result ≡ show_updated_by_clocks (words_of text.now) }
 {
@@ -196,6 +199,7 @@ fn show_updated_by_clocks(text: &[u8]) -> Option<Probe>
     Some(Probe::Updated(updated_by(&values, ran)))
 }
 
+#[inline(never)]
 fn show_dequeued(text: &[u8]) -> Option<Probe>
     ensures { result ≡ show_dequeued (words_of text.now) }
 {
@@ -203,6 +207,7 @@ fn show_dequeued(text: &[u8]) -> Option<Probe>
     Some(Probe::Dequeued(dequeued(&values)))
 }
 
+#[inline(never)]
 fn show_migrating(text: &[u8]) -> Option<Probe>
     ensures { result ≡ show_migrating (words_of text.now) }
 {
@@ -210,6 +215,7 @@ fn show_migrating(text: &[u8]) -> Option<Probe>
     Some(Probe::Migrating(migrating(&values)))
 }
 
+#[inline(never)]
 fn show_left_class(text: &[u8]) -> Option<Probe>
     ensures { result ≡ show_left_class (words_of text.now) }
 {
@@ -217,6 +223,7 @@ fn show_left_class(text: &[u8]) -> Option<Probe>
     Some(Probe::LeftClass(left_class(&values)))
 }
 
+#[inline(never)]
 fn show_admitted(text: &[u8]) -> Option<Probe>
     ensures { result ≡ show_admitted (words_of text.now) }
 {
@@ -224,6 +231,7 @@ fn show_admitted(text: &[u8]) -> Option<Probe>
     Some(Probe::Admitted(admitted(&values)))
 }
 
+#[inline(never)]
 fn show_admitted_delayed(text: &[u8]) -> Option<Probe>
     ensures { result ≡ show_admitted_delayed (words_of text.now) }
 {
@@ -231,6 +239,7 @@ fn show_admitted_delayed(text: &[u8]) -> Option<Probe>
     Some(Probe::Admitted(admitted(&values)))
 }
 
+#[inline(never)]
 fn show_zero_lag_fired(text: &[u8]) -> Option<Probe>
     ensures { result ≡ show_zero_lag_fired (words_of text.now) }
 {
@@ -240,6 +249,7 @@ fn show_zero_lag_fired(text: &[u8]) -> Option<Probe>
     })
 }
 
+#[inline(never)]
 fn show_replenish_fired(text: &[u8]) -> Option<Probe>
     ensures { result ≡ show_replenish_fired (words_of text.now) }
 {
@@ -250,6 +260,7 @@ fn show_replenish_fired(text: &[u8]) -> Option<Probe>
     })
 }
 
+#[inline(never)]
 fn show_armed_from_now(text: &[u8]) -> Option<Probe>
     ensures { result ≡ show_armed_from_now (words_of text.now) }
 {
@@ -258,6 +269,7 @@ fn show_armed_from_now(text: &[u8]) -> Option<Probe>
     Some(Probe::Armed(armed_by(&values, expiry)))
 }
 
+#[inline(never)]
 fn show_armed_until(text: &[u8]) -> Option<Probe>
     ensures { result ≡ show_armed_until (words_of text.now) }
 {
@@ -266,6 +278,7 @@ fn show_armed_until(text: &[u8]) -> Option<Probe>
     Some(Probe::Armed(armed_by(&values, expiry)))
 }
 
+#[inline(never)]
 fn show_server_started(text: &[u8]) -> Option<Probe>
     ensures { result ≡ show_server_started (words_of text.now) }
 {
@@ -273,6 +286,7 @@ fn show_server_started(text: &[u8]) -> Option<Probe>
     Some(Probe::ServerStarted(server_started(&values)))
 }
 
+#[inline(never)]
 fn show_picked(text: &[u8]) -> Option<Probe>
     ensures { result ≡ show_picked (words_of text.now) }
 {
@@ -310,6 +324,7 @@ fn show_armed(text: &[u8]) -> Option<Probe>
     }
 }
 
+#[inline(never)]
 fn show_server_stopped(text: &[u8]) -> Option<Probe>
     ensures { result ≡ show_server_stopped (words_of text.now) }
 {
@@ -317,6 +332,7 @@ fn show_server_stopped(text: &[u8]) -> Option<Probe>
     Some(Probe::ServerStopped(server_stopped(&values)))
 }
 
+#[inline(never)]
 fn show_idled(charge: IdleCharge, text: &[u8]) -> Option<Probe>
     ensures { result ≡ show_idled charge (words_of text.now) }
 {
@@ -403,6 +419,7 @@ fn show_server_changed(text: &[u8]) -> Option<Mark>
     })
 }
 
+#[inline(never)]
 fn show_mark(event: MarkEvent, text: &[u8]) -> Option<Mark>
     ensures { result ≡ show_mark event (words_of text.now) }
 {
