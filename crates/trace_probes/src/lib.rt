@@ -2,6 +2,7 @@
 #![tactic(auto)]
 
 mod field;
+mod front;
 mod numerals;
 mod shown;
 mod tables;

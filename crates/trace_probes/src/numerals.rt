@@ -7,7 +7,7 @@ ghost use Rattle.trace_probes.specs.Numerals.{after, digits_from, negative, nume
 ghost use Rattle.trace_probes.specs.inside.Texts.{text_of};
 
 /// What a byte counts as a digit, from 0 to 35, or 36 where it is none.
-fn digit(byte: u8) -> u64
+pub(crate) fn digit(byte: u8) -> u64
     ensures { result ≡ digit_value byte }
 {
     match byte {
@@ -31,7 +31,7 @@ fn pushed(radix: u64, value: u64, byte: u8) -> Option<u64>
 }
 
 /// The same of a decimal number: below this no digit more makes it too great.
-const FEW: u64 = 1844674407370955161;
+pub(crate) const FEW: u64 = 1844674407370955161;
 
 fn pushed_decimal(value: u64, byte: u8) -> Option<u64>
     ensures { result ≡ pushed 10 value byte }
@@ -125,7 +125,7 @@ pub fn unsigned(word: &[u8]) -> Option<u64>
     }
 }
 
-fn positive(n: u64) -> Option<i64>
+pub(crate) fn positive(n: u64) -> Option<i64>
     ensures { result ≡ positive n }
 {
     if n < 0x8000_0000_0000_0000 {

@@ -51,7 +51,7 @@ pub fn timer_function(symbol: &[u8]) -> TimerFunction
     }
 }
 
-fn flag_of(n: u64) -> Option<bool>
+pub(crate) fn flag_of(n: u64) -> Option<bool>
     ensures { result ≡ flag_of n }
 {
     match n {

@@ -1,13 +1,15 @@
 //! The values of a line's fields.
 
 ghost use Rattle.std.specs.Prelude.{◌≡◌, ◌==◌, length, option_map, replicate};
-ghost use Rattle.trace_probes.specs.Fields.{has_field, is_optional, next_value, value_next, values_with};
+ghost use Rattle.trace_probes.specs.Fields.{has_field, is_optional, next_value, value_next, value_of, values_with};
 ghost use Rattle.trace_probes.specs.Tables.{cpu_at, flag_at, function_at, no_values, shown_at, signed_at, unsigned_at};
-ghost use Rattle.trace_probes.specs.inside.Texts.{next_text, words_left};
+ghost use Rattle.trace_probes.specs.inside.Texts.{behind_word, next_text, words_left};
+ghost use Rattle.text_bytes.specs.Lines.{word_of};
 
 use crate::field::{FIELDS, Field, FieldKind, key_of, kind_of, place_of};
-use crate::numerals::begins;
-use crate::value::{FieldValue, value_of};
+use crate::front::unsigned_front;
+use crate::numerals::{begins, positive};
+use crate::value::{FieldValue, flag_of, value_of};
 use text_bytes::first_word;
 use trace_data::TimerFunction;
 
@@ -20,19 +22,50 @@ pub struct Values {
 /// No value yet.
 const NO_VALUES: [FieldValue; FIELDS] = [FieldValue::Absent; FIELDS];
 
+/// The value of a field of this kind in the first word of a text, and what stands behind that word.
+fn word_value(kind: FieldKind, text: &[u8]) -> Option<(FieldValue, Option<&[u8]>)>
+    ensures { option_map next_text result
+        ≡ option_map (λ v. (v, behind_word text.now)) (value_of kind (word_of text.now)) }
+{
+    let (word, rest) = first_word(text);
+    let value = value_of(kind, word)?;
+    Some((value, rest))
+}
+
+/// The same; most words are decimal numbers.
+fn front_value(kind: FieldKind, text: &[u8]) -> Option<(FieldValue, Option<&[u8]>)>
+    ensures { option_map next_text result
+        ≡ option_map (λ v. (v, behind_word text.now)) (value_of kind (word_of text.now)) }
+{
+    match kind {
+        FieldKind::Unsigned | FieldKind::Optional => match unsigned_front(text) {
+            Some((n, rest)) => Some((FieldValue::Unsigned(n), rest)),
+            None => word_value(kind, text),
+        },
+        FieldKind::Flag => match unsigned_front(text) {
+            Some((n, rest)) => Some((FieldValue::Flag(flag_of(n)?), rest)),
+            None => word_value(kind, text),
+        },
+        FieldKind::Signed => match unsigned_front(text) {
+            Some((n, rest)) => Some((FieldValue::Signed(positive(n)?), rest)),
+            None => word_value(kind, text),
+        },
+        FieldKind::Function => word_value(kind, text),
+    }
+}
+
 /// The value of a field in the first word that has its key, and what stands behind that word.
+#[tactic(auto, using(crate::proofs::WordLemmas::next_later))]
 fn next_value<'a>(field: Field, words: Option<&'a [u8]>) -> Option<(FieldValue, Option<&'a [u8]>)>
     ensures { option_map next_text result ≡ next_value field (words_left words.entry) }
 {
     let key = key_of(field);
     let mut left = words;
     while let Some(text) = left {
-        let (word, rest) = first_word(text);
-        if begins(key, word) {
-            let value = value_of(kind_of(field), &word[key.len()..])?;
-            return Some((value, rest));
+        if begins(key, text) {
+            return front_value(kind_of(field), &text[key.len()..]);
         }
-        left = rest;
+        left = first_word(text).1;
     }
     None
 }

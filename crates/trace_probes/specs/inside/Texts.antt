@@ -1,7 +1,7 @@
 -- The texts that the slices of the code point to.
-use Rattle.std.specs.Prelude.{ℕ, ◌+◌, List, [], length, Option, Some, None}
+use Rattle.std.specs.Prelude.{ℕ, Bool, true, not, ◌&&◌, ◌+◌, List, [], ◌∷◌, length, drop, Option, Some, None}
 use Rattle.std.specs.Borrow.{Bor}
-use Rattle.text_bytes.specs.Lines.{words_of}
+use Rattle.text_bytes.specs.Lines.{is_space, words_of}
 use Rattle.trace_probes.specs.declared.value.FieldValue.{FieldValue}
 
 abbrev pub text_of : Bor (List ℕ) → List ℕ
@@ -19,3 +19,12 @@ next_text v = (v.0, words_left v.1)
 abbrev pub left_length : Option (Bor (List ℕ)) → ℕ
 left_length None = 0
 left_length (Some text) = length text.now + 1
+
+-- the words behind the first one of a text
+abbrev pub behind_word : List ℕ → List (List ℕ)
+behind_word text = drop 1 (words_of text)
+
+-- whether a key has no space
+abbrev pub plain : List ℕ → Bool
+plain [] = true
+plain (c ∷ cs) = not (is_space c) && plain cs
