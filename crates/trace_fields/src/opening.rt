@@ -139,12 +139,20 @@ fn without_last(text: &[u8]) -> &[u8]
     &text[..text.len().saturating_sub(1)]
 }
 
+/// The pid and the comm of the task that runs, from what stands before the CPU's word.
+pub fn running_task(front: &[u8]) -> (Option<u64>, &[u8])
+    ensures pid { result.0 ≡ running front.now }
+    ensures comm { result.1.now ≡ running_comm front.now }
+{
+    let text = before_brackets(trimmed(front));
+    let digits = last_digits(text);
+    let comm = without_last(&text[..text.len().saturating_sub(digits.len())]);
+    (number(digits), without_spaces(trimmed(comm)))
+}
+
 /// The comm of the task that runs, from what stands before the CPU's word.
 pub fn running_comm(front: &[u8]) -> &[u8]
     ensures { result.now ≡ running_comm front.now }
 {
-    let text = before_brackets(trimmed(front));
-    let digits = last_digits(text).len();
-    let comm = without_last(&text[..text.len().saturating_sub(digits)]);
-    without_spaces(trimmed(comm))
+    running_task(front).1
 }

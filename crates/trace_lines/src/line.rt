@@ -22,8 +22,8 @@ use memchr::memchr;
 use text_bytes::first_word;
 use trace_data::{Fixed, Flaw, Mark, Probe, RecordLine, Said, TraceNote};
 use trace_fields::{
-    Opening, Shown, is_comment, is_lost, opening_of, processors, running, running_comm, shown_by,
-    without_spaces,
+    Opening, Shown, is_comment, is_lost, opening_of, processors, running, running_comm,
+    running_task, shown_by, without_spaces,
 };
 use trace_probes::{ProbeEvent, probe_of};
 
@@ -388,8 +388,8 @@ fn probe_line<'a>(
     let Some(cpu) = opening.cpu else {
         return flawed_line(Flaw::BadTraceLine);
     };
-    let front = &line[..cpu.start];
-    let Some(pid) = running(front) else {
+    let (pid, comm) = running_task(&line[..cpu.start]);
+    let Some(pid) = pid else {
         return flawed_line(Flaw::BadTraceLine);
     };
     let Some(probe) = probe_of(event, fields) else {
@@ -406,10 +406,7 @@ fn probe_line<'a>(
             pid,
             said: Said::Probe(probe),
         },
-        shown: Some(Shown {
-            comm: running_comm(front),
-            pid,
-        }),
+        shown: Some(Shown { comm, pid }),
         domain: None,
         release: None,
         lost: None,
