@@ -15,6 +15,7 @@ use Rattle.kernel_functions.specs.Timer.{disarmed_of, replenish_fired_of}
 use Rattle.probe_findings.specs.declared.words.ProbedLine.{ProbedLine}
 use Rattle.probe_run.specs.declared.actor.Actor.{Actor}
 use Rattle.probe_run.specs.declared.rules.PlayRules.{PlayRules}
+use Rattle.probe_run.specs.declared.rules.Processor.{Processor}
 use Rattle.probe_run.specs.declared.waiting.TimerToArm.{TimerToArm}
 use Rattle.probe_run.specs.declared.waiting.OlderDequeue.{OlderDequeue}
 use Rattle.probe_run.specs.State.{State, actor_at, keep_at, found_at}
@@ -22,6 +23,7 @@ use Rattle.probe_run.specs.Sums.{forget, forget_all, forget_unlocked}
 use Rattle.probe_run.specs.Counting.{where_it_holds}
 use Rattle.probe_run.specs.Begin.{pend_lock, pend_return, own_timer, without_timer_to_arm}
 use Rattle.probe_values.specs.Shown.{same_signed, address_agrees}
+use Rattle.probe_timers.specs.Marks.{opened_if}
 
 -- inactive_task_timer, before its lock: from here on it runs
 abbrev pub forget_past : State → Bool → State
@@ -53,9 +55,17 @@ donor_by a (Some served_by) (Some own) = if served_by == own then None else Some
 donor_by a (Some served_by) None = a.entity.donor
 donor_by a None own = a.entity.donor
 
+-- its CPU went: before its enqueue dl_task_offline_migration returns its bandwidth, and takes it again
+abbrev pub is_inactive : ℕ → Processor → Bool
+is_inactive cpu p = (p.cpu == cpu) && not p.is_active
+
+abbrev pub goes_offline : State → Actor → Bool
+goes_offline s a = a.entity.budget.is_throttled && (a.entity.is_queued && list_any (is_inactive a.cpu) s.processors)
+
 abbrev pub replenish_actor : State → ℕ → Actor → Option ℕ → State
 replenish_actor s n a served_by =
-    keep_at s n (record a { entity = replenish_fired_of (record a.entity { donor = donor_by a served_by a.address }) })
+    opened_if (goes_offline s a)
+    (keep_at s n (record a { entity = replenish_fired_of (record a.entity { donor = donor_by a served_by a.address }) }))
 
 abbrev pub replenish_fired_by : State → Option ℕ → Option ℕ → State
 replenish_fired_by s None served_by = s

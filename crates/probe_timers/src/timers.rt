@@ -5,13 +5,15 @@ ghost use Rattle.std.specs.Prelude.{Some, ◌≡◌, ◌&&◌, ◌<◌, None, On
 ghost use Rattle.probe_run.specs.Runs.{state_of};
 ghost use Rattle.probe_run.specs.State.{actor_at};
 ghost use Rattle.probe_run.specs.Begin.{pend_return};
-ghost use Rattle.probe_timers.specs.Timers.{forget_past, has_left, fired_actor, zero_lag_fired_by, own_parameters, donor_kept, donor_by, replenish_actor, replenish_fired_by};
+ghost use Rattle.std.specs.List.{list_any};
+ghost use Rattle.probe_timers.specs.Timers.{forget_past, has_left, fired_actor, zero_lag_fired_by, own_parameters, donor_kept, donor_by, is_inactive, goes_offline, replenish_actor, replenish_fired_by};
 
+use crate::marks::open_if;
 use kernel_changes::replenish_fired_by;
 use kernel_entity::Entity;
 use kernel_functions::Delayed;
 use probe_findings::{ExactRule, ProbedLine};
-use probe_run::{Actor, PlayRules, Run};
+use probe_run::{Actor, PlayRules, Processor, Run};
 use std::alloc::AllocError;
 use trace_data::{Donor, Parameters};
 
@@ -122,6 +124,23 @@ fn donor(actor: Actor, served_by: Option<u64>, own: Option<u64>) -> Option<Donor
     }
 }
 
+fn is_inactive(processors: &[Processor], cpu: u32) -> bool
+    ensures { result ≡ list_any (is_inactive cpu) processors.now }
+{
+    processors
+        .iter()
+        .any(|one| one.cpu == cpu && !one.is_active)
+}
+
+/// Whether its CPU went, so that `dl_task_offline_migration` returns its bandwidth and takes it again before its enqueue.
+fn goes_offline(run: &Run, actor: Actor) -> bool
+    ensures { result ≡ goes_offline (state_of run.now) actor }
+{
+    actor.entity.budget.is_throttled
+        && actor.entity.is_queued
+        && is_inactive(run.processors(), actor.cpu)
+}
+
 fn replenish(
     run: &mut Run,
     rules: PlayRules,
@@ -142,7 +161,9 @@ fn replenish(
     if entity.is_late && !actor.entity.is_late {
         run.note_entity(place, number, ExactRule::ReplenishedBlocked)?;
     }
+    let opens = goes_offline(run, actor);
     run.keep(number, Actor { entity, ..actor });
+    open_if(run, opens);
     Ok(())
 }
 
