@@ -77,7 +77,7 @@ changed_dequeuing c e flags on_rq clock =
 
 -- no block
 abbrev pub left_at_once : Entity → Leaving
-left_at_once e = record { entity = record e { is_in_class = false; is_non_contending = false }; change = no_change; block = None }
+left_at_once e = record { entity = record e { is_in_class = false; is_queued = false; is_non_contending = false }; change = no_change; block = None }
 
 -- switched_from_dl
 abbrev pub changed_leaving : RuleChange → Entity → ℕ → ℕ → Leaving

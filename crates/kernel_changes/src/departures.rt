@@ -229,6 +229,7 @@ fn left_at_once(entity: Entity) -> Leaving
     Leaving {
         entity: Entity {
             is_in_class: false,
+            is_queued: false,
             is_non_contending: false,
             ..entity
         },
