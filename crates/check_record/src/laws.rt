@@ -1,6 +1,6 @@
 //! The laws of a record, beside its rules.
 
-use law_findings::{AskedLaws, JudgedLaws, LawFigures, ReadLine};
+use law_findings::{AskedLaws, JudgedLaws, LawFigures, ReadLine, is_not_negative};
 use law_play::LawPlay;
 use law_timers::TimerLaws;
 use std::alloc::{AllocError, Global};
@@ -24,6 +24,9 @@ pub struct RecordLaws {
     /// The root domain of the last note, and whether notes tell of several.
     domain: Option<u64>,
     has_domains: bool,
+
+    /// The CPUs whose extra_bw is below 0 by a note.
+    below: Vec<u32>,
     play: Option<LawPlay>,
 
     /// By lines of timers, as long as no line of a probe was read.
@@ -42,6 +45,7 @@ impl RecordLaws {
             keeps_breaches,
             domain: None,
             has_domains: false,
+            below: Vec::new(alloc),
             play: None,
             timers: None,
             has_probes: false,
@@ -53,6 +57,15 @@ impl RecordLaws {
     pub(crate) fn note_domain(&mut self, domain: Option<u64>) {
         self.has_domains = self.has_domains || self.domain.is_some() && domain != self.domain;
         self.domain = domain;
+    }
+
+    /// A note tells the extra_bw of a CPU.
+    pub(crate) fn note_extra(&mut self, cpu: u32, extra_bw: u64) -> Result<(), AllocError> {
+        if is_not_negative(extra_bw) {
+            return Ok(());
+        }
+        self.below.push(cpu)?;
+        Ok(())
     }
 
     /// Takes a line of an event, of a record of this kernel.
@@ -81,6 +94,9 @@ impl RecordLaws {
         if self.has_domains {
             play.part_domains();
         }
+        for cpu in self.below.iter() {
+            play.begin_below(*cpu)?;
+        }
         let taken = play.take(read, said);
         self.play = Some(play);
         taken
@@ -106,11 +122,18 @@ impl RecordLaws {
                 Ok(())
             }
             Said::Probe(_) => {
-                self.has_probes = true;
-                self.timers = None;
+                if !self.has_probes {
+                    self.end_timers();
+                }
                 Ok(())
             }
         }
+    }
+
+    /// A line of a probe was read.
+    fn end_timers(&mut self) {
+        self.has_probes = true;
+        self.timers = None;
     }
 
     /// Takes the first line of timers.

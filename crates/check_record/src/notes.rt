@@ -108,6 +108,7 @@ impl Gathering<'_> {
                 server,
             } => {
                 self.laws.note_domain(domain);
+                self.laws.note_extra(cpu, sums.extra_bw)?;
                 self.head.sums.push(RunqueueSums { cpu, sums })?;
                 self.head.servers.push(server_note(cpu, sums, server))?;
                 self.head.see_domain(cpu, domain)

@@ -66,6 +66,11 @@ impl LawPlay {
         self.total.part();
     }
 
+    /// The record begins with an extra_bw of this CPU that is below 0.
+    pub fn begin_below(&mut self, cpu: u32) -> Result<(), AllocError> {
+        self.total.begin_below(cpu)
+    }
+
     /// Takes a line.
     pub fn take(&mut self, read: ReadLine, said: &Said) -> Result<(), AllocError> {
         match said {

@@ -33,11 +33,24 @@ impl Total {
             finding: Finding::NegativeExtra {
                 extra_bw: extra_bw.cast_signed(),
             },
-            sign: Some(if self.has_marks {
-                Sign::SharesTakenAgain
-            } else {
-                Sign::ServersTakenTwice
-            }),
+            sign: Some(self.sign_of(cpu)),
         })
+    }
+
+    /// The record begins with an extra_bw of this CPU that is below 0.
+    pub fn begin_below(&mut self, cpu: u32) -> Result<(), AllocError> {
+        self.below_at_start.push(cpu)?;
+        Ok(())
+    }
+
+    /// What an extra_bw of this CPU that is below 0 has in common with a known fault.
+    fn sign_of(&self, cpu: u32) -> Sign {
+        if self.below_at_start.iter().any(|it| *it == cpu) {
+            Sign::BelowAtStart
+        } else if self.has_marks {
+            Sign::SharesTakenAgain
+        } else {
+            Sign::ServersTakenTwice
+        }
     }
 }

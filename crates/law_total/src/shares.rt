@@ -85,6 +85,9 @@ pub struct Total {
 
     /// The CPUs whose extra_bw was below 0.
     pub(crate) below: Vec<u32>,
+
+    /// Those whose extra_bw was below 0 as the record began.
+    pub(crate) below_at_start: Vec<u32>,
 }
 
 impl Total {
@@ -100,6 +103,7 @@ impl Total {
             open_until: 0,
             has_marks: false,
             below: Vec::new(alloc),
+            below_at_start: Vec::new(alloc),
         }
     }
 
