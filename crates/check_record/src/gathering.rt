@@ -171,7 +171,7 @@ impl<'o> Gathering<'o> {
             (retimed (with_told number (told_text told.now)) (shown_in self.old))) }
     {
         self.see_beside(number, told)?;
-        self.take_line(number, told.line)
+        self.take_line(number, &told.line)
     }
 
     /// Takes what a line tells beside what it says.
@@ -256,12 +256,12 @@ impl<'o> Gathering<'o> {
     }
 
     /// Takes a note, or the line of an event.
-    fn take_line(&mut self, number: u64, line: RecordLine) -> Result<(), AllocError>
-        ensures { OnOk result (shown_in self.new ≡ shown_with number line (shown_in self.old)) }
+    fn take_line(&mut self, number: u64, line: &RecordLine) -> Result<(), AllocError>
+        ensures { OnOk result (shown_in self.new ≡ shown_with number line.now (shown_in self.old)) }
     {
         match line {
             RecordLine::Quiet | RecordLine::Flawed(_) => Ok(()),
-            RecordLine::Note(note) => self.note(number, note),
+            RecordLine::Note(note) => self.note(number, *note),
             RecordLine::Event {
                 at,
                 cpu,
@@ -271,9 +271,9 @@ impl<'o> Gathering<'o> {
             } => self.take_event(
                 ReadLine {
                     line: number,
-                    at,
-                    cpu,
-                    pid,
+                    at: *at,
+                    cpu: *cpu,
+                    pid: *pid,
                 },
                 said,
             ),
@@ -281,23 +281,23 @@ impl<'o> Gathering<'o> {
     }
 
     /// Takes the line of an event.
-    fn take_event(&mut self, read: ReadLine, said: Said) -> Result<(), AllocError>
+    fn take_event(&mut self, read: ReadLine, said: &Said) -> Result<(), AllocError>
         ensures { OnOk result (shown_in self.new
-            ≡ with_said read.line read.at read.cpu read.pid said (shown_in self.old)) }
+            ≡ with_said read.line read.at read.cpu read.pid said.now (shown_in self.old)) }
     {
         self.see_moment(read);
-        self.hold_to_laws(read, &said)?;
+        self.hold_to_laws(read, said)?;
         match said {
-            Said::Fixed(fixed) => self.fixed(read, fixed),
-            Said::Probe(probe) => self.probe(ProbeLine {
+            Said::Fixed(fixed) => self.fixed(read, *fixed),
+            Said::Probe(probe) => self.probe(&ProbeLine {
                 place: ProbedLine {
                     line: read.line,
                     at: read.at,
                     cpu: read.cpu,
                     pid: read.pid,
-                    event: event_of(&probe),
+                    event: event_of(probe),
                 },
-                probe,
+                probe: *probe,
             }),
         }
     }
@@ -352,10 +352,11 @@ impl<'o> Gathering<'o> {
     }
 
     /// Takes a line of a probe.
-    fn probe(&mut self, line: ProbeLine) -> Result<(), AllocError>
-        ensures head { told_of self.new.head ≡ seen_on line.place.cpu (told_of self.old.head) }
+    fn probe(&mut self, line: &ProbeLine) -> Result<(), AllocError>
+        ensures head { told_of self.new.head
+            ≡ seen_on line.now.place.cpu (told_of self.old.head) }
         ensures shown { OnOk result
-            (shown_in self.new ≡ with_probe (as_read line) (shown_in self.old)) }
+            (shown_in self.new ≡ with_probe (as_read line.now) (shown_in self.old)) }
     {
         self.see_probe(line.place.cpu);
         self.take_probe(line)
@@ -374,10 +375,10 @@ impl<'o> Gathering<'o> {
     }
 
     #[tactic(auto, unfolding(crate::specs::Seen::shown_in))]
-    fn take_probe(&mut self, line: ProbeLine) -> Result<(), AllocError>
+    fn take_probe(&mut self, line: &ProbeLine) -> Result<(), AllocError>
         ensures head { self.new.head ≡ self.old.head }
         ensures shown { OnOk result
-            (shown_in self.new ≡ probe_taken (as_read line) (shown_in self.old)) }
+            (shown_in self.new ≡ probe_taken (as_read line.now) (shown_in self.old)) }
     {
         let told = ToldSettings {
             head: &self.head,

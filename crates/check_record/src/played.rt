@@ -56,8 +56,8 @@ impl Played {
     }
 
     /// Plays a line.
-    pub(crate) fn take(&mut self, line: ProbeLine) -> Result<(), AllocError>
-        ensures { OnOk result (self.new.player.lines ≡ self.old.player.lines ++ line ∷ []) }
+    pub(crate) fn take(&mut self, line: &ProbeLine) -> Result<(), AllocError>
+        ensures { OnOk result (self.new.player.lines ≡ self.old.player.lines ++ line.now ∷ []) }
     {
         self.lines = self.lines.saturating_add(1);
         self.to = line.place.at;
@@ -75,7 +75,7 @@ impl Played {
         ensures { OnOk result (self.new.player.lines ≡ self.old.player.lines ++ lines.now) }
     {
         for line in lines {
-            self.take(*line)?;
+            self.take(line)?;
             self.put_rows(alloc, rows, names)?;
         }
         Ok(())

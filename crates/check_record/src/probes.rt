@@ -143,18 +143,18 @@ impl Probes {
     /// Takes a line.
     pub(crate) fn take(
         &mut self,
-        line: ProbeLine,
+        line: &ProbeLine,
         told: ToldSettings<'_>,
         names: &Names,
     ) -> Result<(), AllocError>
-        ensures lines { OnOk result (lines_in self.new ≡ lines_in self.old ++ line ∷ []) }
+        ensures lines { OnOk result (lines_in self.new ≡ lines_in self.old ++ line.now ∷ []) }
         ensures some { OnOk result (has_lines self.new ≡ true) }
         ensures dequeues { OnOk result
-            (self.new.look.has_dequeues ≡ (self.old.look.has_dequeues || shows_dequeue line.probe)) }
+            (self.new.look.has_dequeues ≡ (self.old.look.has_dequeues || shows_dequeue line.now.probe)) }
         ensures timers { OnOk result
-            (self.new.look.has_timers ≡ (self.old.look.has_timers || arms_timer line.probe)) }
+            (self.new.look.has_timers ≡ (self.old.look.has_timers || arms_timer line.now.probe)) }
     {
-        self.look_at(&line)?;
+        self.look_at(line)?;
         self.keep_or_play(line, told, names)?;
         self.put_rows(names)
     }
@@ -176,11 +176,11 @@ impl Probes {
 
     fn keep_or_play(
         &mut self,
-        line: ProbeLine,
+        line: &ProbeLine,
         told: ToldSettings<'_>,
         names: &Names,
     ) -> Result<(), AllocError>
-        ensures lines { OnOk result (lines_in self.new ≡ lines_in self.old ++ line ∷ []) }
+        ensures lines { OnOk result (lines_in self.new ≡ lines_in self.old ++ line.now ∷ []) }
         ensures some { OnOk result (has_lines self.new ≡ true) }
         ensures look { self.new.look ≡ self.old.look }
     {
@@ -193,16 +193,16 @@ impl Probes {
     /// Keeps a line of a record that is not played yet.
     fn keep(
         &mut self,
-        line: ProbeLine,
+        line: &ProbeLine,
         told: ToldSettings<'_>,
         names: &Names,
     ) -> Result<(), AllocError>
         requires { self.old.played ≡ None }
-        ensures lines { OnOk result (lines_in self.new ≡ lines_in self.old ++ line ∷ []) }
+        ensures lines { OnOk result (lines_in self.new ≡ lines_in self.old ++ line.now ∷ []) }
         ensures some { OnOk result (has_lines self.new ≡ true) }
         ensures look { self.new.look ≡ self.old.look }
     {
-        self.kept.push(line)?;
+        self.kept.push(*line)?;
         if self.is_looked_at() {
             self.play_kept(told, names)
         } else {

@@ -69,10 +69,10 @@ fn make_moves<S: Search>(
 fn play_chosen(
     run: &mut Run,
     rules: PlayRules,
-    next: ProbeLine,
+    next: &ProbeLine,
     choice: LineChoice,
 ) -> Result<(), AllocError>
-    ensures { OnOk result (IsPlayed rules (state_of run.old) (next ∷ []) (state_of run.new)) }
+    ensures { OnOk result (IsPlayed rules (state_of run.old) (next.now ∷ []) (state_of run.new)) }
 {
     play_line(run, rules, next.place, &next.probe, choice)?;
     Ok(())
@@ -84,12 +84,12 @@ fn play_with<S: Search>(
     run: &mut Run,
     rules: PlayRules,
     search: &mut S,
-    next: ProbeLine,
+    next: &ProbeLine,
     ahead: &VecDeque<ProbeLine>,
 ) -> Result<(), AllocError>
-    ensures { OnOk result (IsPlayed rules (state_of run.old) (next ∷ []) (state_of run.new)) }
+    ensures { OnOk result (IsPlayed rules (state_of run.old) (next.now ∷ []) (state_of run.new)) }
 {
-    let choice = make_moves(run, rules, search, &next, ahead)?;
+    let choice = make_moves(run, rules, search, next, ahead)?;
     play_chosen(run, rules, next, choice)?;
     Ok(())
 }
@@ -157,8 +157,8 @@ impl Play {
 
     /// Takes the next line of the record.
     #[tactic(auto, using(crate::proofs::Taking::line_then))]
-    pub fn take<S: Search>(&mut self, search: &mut S, line: ProbeLine) -> Result<(), AllocError>
-        ensures { OnOk result (TakesLine self.old line self.new) }
+    pub fn take<S: Search>(&mut self, search: &mut S, line: &ProbeLine) -> Result<(), AllocError>
+        ensures { OnOk result (TakesLine self.old line.now self.new) }
     {
         self.wait(line)?;
         self.play_due(search)?;
@@ -166,10 +166,10 @@ impl Play {
     }
 
     #[tactic(auto, using(crate::proofs::Taking::pushed))]
-    fn wait(&mut self, line: ProbeLine) -> Result<(), AllocError>
-        ensures { OnOk result (TakesLine self.old line self.new) }
+    fn wait(&mut self, line: &ProbeLine) -> Result<(), AllocError>
+        ensures { OnOk result (TakesLine self.old line.now self.new) }
     {
-        self.waiting.push_back(line)?;
+        self.waiting.push_back(*line)?;
         Ok(())
     }
 
@@ -189,7 +189,7 @@ impl Play {
     {
         match self.waiting.pop_front() {
             Some(next) => {
-                play_with(&mut self.run, self.rules, search, next, &self.waiting)?;
+                play_with(&mut self.run, self.rules, search, &next, &self.waiting)?;
                 self.last = next.place;
                 Ok(())
             }

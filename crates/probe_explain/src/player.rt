@@ -92,14 +92,14 @@ impl Player {
     }
 
     /// Takes the next line of the record.
-    pub fn take<S: Search>(&mut self, search: &mut S, line: ProbeLine) -> Result<(), AllocError>
+    pub fn take<S: Search>(&mut self, search: &mut S, line: &ProbeLine) -> Result<(), AllocError>
         ensures rules { OnOk result (self.new.rules ≡ self.old.rules) }
         ensures start { OnOk result (self.new.start ≡ self.old.start) }
-        ensures lines { OnOk result (self.new.lines ≡ self.old.lines ++ line ∷ []) }
+        ensures lines { OnOk result (self.new.lines ≡ self.old.lines ++ line.now ∷ []) }
     {
         match self.play.take(search, line) {
             Ok(()) => {
-                self.taken = self.taken.and(&line);
+                self.taken = self.taken.and(line);
                 Ok(())
             }
             Err(AllocError) => {

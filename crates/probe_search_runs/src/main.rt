@@ -28,7 +28,7 @@ fn played<S: Search>(
     let start = record.look.start(alloc, &record.notes)?;
     let mut player = Player::new(alloc, record.rules(), start, AHEAD, false)?;
     for line in &record.lines {
-        player.take(search, *line)?;
+        player.take(search, line)?;
     }
     player.finish(search)?;
     Ok(player)

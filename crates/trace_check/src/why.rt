@@ -40,7 +40,7 @@ fn trial_of(
     let mut search = ProbeSearch::new(alloc, rules, look.shows_spans());
     let mut player = Player::new(alloc, rules, look.start(alloc, &notes)?, AHEAD, false)?;
     for line in &gathering.probes.kept {
-        player.take(&mut search, *line)?;
+        player.take(&mut search, line)?;
     }
     player.finish(&mut search)?;
     let differ = total_of(&player.run().counts()).differ;

@@ -11,6 +11,6 @@ unfolding shown_in
 returns-clause-shown c =
     let before : Timed = timed_in c.args.self.now in
     on_ok c.take.result (λ lines some dequeues timers.
-    alike _ _ _ _ _ _ _ _ _ (one_more (lines_in c.args.self.now.probes) (lines_in c.take.new.self) c.args.line lines) dequeues timers
+    alike _ _ _ _ _ _ _ _ _ (one_more (lines_in c.args.self.now.probes) (lines_in c.take.new.self) c.args.line.now lines) dequeues timers
     (ap (λ (b : Bool). record before { probed = b }) some))
     c.take.ensures.lines c.take.ensures.some c.take.ensures.dequeues c.take.ensures.timers

@@ -7,4 +7,4 @@ use Rattle.probe_explain.proofs.player.Player.take.Goals as goal
 pub invariant_of-self : goal.invariant_of-self
 invariant_of-self g c =
     λ h. subst (λ ls. HasTaken c.take.new.self c.self.inside.rules (start_of c.self.inside.start.value) ls) (sym c.and-self-inside.ensures)
-    (taken_more _ _ c.args.line c.in-Ok.ensures _ _ _ (c.self.invariant h))
+    (taken_more _ _ c.args.line.now c.in-Ok.ensures _ _ _ (c.self.invariant h))
