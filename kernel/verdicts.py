@@ -28,11 +28,11 @@ def text_of(path):
 
 
 def is_read(report):
-    """Whether all that differs is what a stock kernel does where sched_rt_runtime_us is read."""
+    """Whether all that differs is what a stock kernel does where sched_rt_runtime_us is read: it rebuilds the root domains' sums."""
     rules = report.get("rules") or {}
     kinds = {it["kind"] for it in rules.get("kinds") or () if it["differ"]}
     lines = (rules.get("evidence") or {}).get("lines", ())
-    return bool(kinds) and kinds <= {"extra_bw", "total_bw"} and any(" lim: " in it and "write=0" in it for it in lines)
+    return bool(kinds) and kinds <= {"extra_bw", "total_bw"} and any(" reb: " in it or " lim: " in it and "write=0" in it for it in lines)
 
 
 def sums(text):

@@ -1,11 +1,12 @@
 //! The laws of a record, beside its rules.
 
-use law_findings::{AskedLaws, JudgedLaws, LawFigures, ReadLine, is_not_negative};
+use kernel_entity::BW_UNIT;
+use law_findings::{AskedLaws, JudgedLaws, LawFigures, ReadLine};
 use law_play::LawPlay;
 use law_timers::TimerLaws;
 use std::alloc::{AllocError, Global};
 use task_figures::FigureLines;
-use trace_data::{Fixed, Kernel, Probe, Said};
+use trace_data::{Fixed, Kernel, Limit, Probe, Said};
 
 /// What became of the laws in a record, and what is told beside them.
 #[derive(Drop)]
@@ -25,8 +26,8 @@ pub struct RecordLaws {
     domain: Option<u64>,
     has_domains: bool,
 
-    /// The CPUs whose extra_bw is below 0 by a note.
-    below: Vec<u32>,
+    /// The CPUs whose extra_bw is too low by a note.
+    low: Vec<u32>,
     play: Option<LawPlay>,
 
     /// By lines of timers, as long as no line of a probe was read.
@@ -45,7 +46,7 @@ impl RecordLaws {
             keeps_breaches,
             domain: None,
             has_domains: false,
-            below: Vec::new(alloc),
+            low: Vec::new(alloc),
             play: None,
             timers: None,
             has_probes: false,
@@ -59,12 +60,17 @@ impl RecordLaws {
         self.domain = domain;
     }
 
-    /// A note tells the extra_bw of a CPU.
-    pub(crate) fn note_extra(&mut self, cpu: u32, extra_bw: u64) -> Result<(), AllocError> {
-        if is_not_negative(extra_bw) {
-            return Ok(());
+    /// A note tells the extra_bw of a CPU, and the head the limit and what is admitted.
+    pub(crate) fn note_extra(
+        &mut self,
+        cpu: u32,
+        extra_bw: u64,
+        limit: Option<Limit>,
+        total_bw: Option<u64>,
+    ) -> Result<(), AllocError> {
+        if extra_bw.cast_signed() < least_left(limit, total_bw) {
+            self.low.push(cpu)?;
         }
-        self.below.push(cpu)?;
         Ok(())
     }
 
@@ -94,8 +100,8 @@ impl RecordLaws {
         if self.has_domains {
             play.part_domains();
         }
-        for cpu in self.below.iter() {
-            play.begin_below(*cpu)?;
+        for cpu in self.low.iter() {
+            play.begin_low(*cpu)?;
         }
         let taken = play.take(read, said);
         self.play = Some(play);
@@ -162,5 +168,16 @@ impl RecordLaws {
         let figures = play.finish()?;
         let judged = play.judged;
         Ok(Some(LawsOfRecord { judged, figures }))
+    }
+}
+
+/// What a limit and what is admitted leave of each CPU at least, and 0 where one of them is not told.
+fn least_left(limit: Option<Limit>, total_bw: Option<u64>) -> i64 {
+    match (limit, total_bw) {
+        (Some(Limit::MaxBw(max_bw)), Some(total_bw)) => max_bw
+            .min(BW_UNIT)
+            .cast_signed()
+            .wrapping_sub(total_bw.cast_signed()),
+        _ => 0,
     }
 }

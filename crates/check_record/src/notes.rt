@@ -108,7 +108,8 @@ impl Gathering<'_> {
                 server,
             } => {
                 self.laws.note_domain(domain);
-                self.laws.note_extra(cpu, sums.extra_bw)?;
+                let (limit, total_bw) = (self.head.limit, self.head.total_bw);
+                self.laws.note_extra(cpu, sums.extra_bw, limit, total_bw)?;
                 self.head.sums.push(RunqueueSums { cpu, sums })?;
                 self.head.servers.push(server_note(cpu, sums, server))?;
                 self.head.see_domain(cpu, domain)

@@ -2,7 +2,7 @@
 use Rattle.std.specs.Prelude.{ℕ, Bool, false, ◌&&◌, ◌||◌, ◌==◌, nat_lt, nat_le, Option, Some, None}
 use Rattle.trace_data.specs.declared.note.Kernel.{Kernel}
 use Rattle.law_findings.specs.declared.known.Sign.{Sign}
-use Rattle.law_findings.specs.declared.known.Sign.TheVariants.{LeftThrottled, BoostEnded, ProductWraps, LeftAsleep, ServersTakenTwice, SharesTakenAgain, BelowAtStart}
+use Rattle.law_findings.specs.declared.known.Sign.TheVariants.{LeftThrottled, BoostEnded, ProductWraps, LeftAsleep, ServersTakenTwice, SharesTakenAgain, LowAtStart}
 
 -- from this minor release of 6 on
 abbrev pub since_of : Sign → ℕ
@@ -12,7 +12,7 @@ since_of ProductWraps = 1
 since_of LeftAsleep = 1
 since_of ServersTakenTwice = 12
 since_of SharesTakenAgain = 1
-since_of BelowAtStart = 1
+since_of LowAtStart = 1
 
 abbrev pub is_known_in : Sign → Option Kernel → Bool
 is_known_in sign None = false

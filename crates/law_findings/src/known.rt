@@ -26,8 +26,8 @@ pub enum Sign {
     /// extra_bw is below 0, behind a line of a function that takes shares again.
     SharesTakenAgain,
 
-    /// extra_bw is below 0, and was so as the record began.
-    BelowAtStart,
+    /// extra_bw is below 0, and was too low as the record began.
+    LowAtStart,
 }
 
 /// Whether a kernel of this release is known to have the fault: from 6.1 on, and those of fair servers from 6.12 on.
@@ -44,7 +44,7 @@ pub fn is_known(sign: Sign, kernel: Option<Kernel>) -> bool
         | Sign::ProductWraps
         | Sign::LeftAsleep
         | Sign::SharesTakenAgain
-        | Sign::BelowAtStart => 1,
+        | Sign::LowAtStart => 1,
     };
     kernel.major > 6 || kernel.major == 6 && kernel.minor >= since
 }

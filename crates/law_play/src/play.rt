@@ -66,9 +66,9 @@ impl LawPlay {
         self.total.part();
     }
 
-    /// The record begins with an extra_bw of this CPU that is below 0.
-    pub fn begin_below(&mut self, cpu: u32) -> Result<(), AllocError> {
-        self.total.begin_below(cpu)
+    /// The record begins with an extra_bw of this CPU that is too low.
+    pub fn begin_low(&mut self, cpu: u32) -> Result<(), AllocError> {
+        self.total.begin_low(cpu)
     }
 
     /// Takes a line.

@@ -37,16 +37,16 @@ impl Total {
         })
     }
 
-    /// The record begins with an extra_bw of this CPU that is below 0.
-    pub fn begin_below(&mut self, cpu: u32) -> Result<(), AllocError> {
-        self.below_at_start.push(cpu)?;
+    /// The record begins with an extra_bw of this CPU that is too low.
+    pub fn begin_low(&mut self, cpu: u32) -> Result<(), AllocError> {
+        self.low_at_start.push(cpu)?;
         Ok(())
     }
 
     /// What an extra_bw of this CPU that is below 0 has in common with a known fault.
     fn sign_of(&self, cpu: u32) -> Sign {
-        if self.below_at_start.iter().any(|it| *it == cpu) {
-            Sign::BelowAtStart
+        if self.low_at_start.iter().any(|it| *it == cpu) {
+            Sign::LowAtStart
         } else if self.has_marks {
             Sign::SharesTakenAgain
         } else {

@@ -86,8 +86,8 @@ pub struct Total {
     /// The CPUs whose extra_bw was below 0.
     pub(crate) below: Vec<u32>,
 
-    /// Those whose extra_bw was below 0 as the record began.
-    pub(crate) below_at_start: Vec<u32>,
+    /// Those whose extra_bw was too low as the record began.
+    pub(crate) low_at_start: Vec<u32>,
 }
 
 impl Total {
@@ -103,7 +103,7 @@ impl Total {
             open_until: 0,
             has_marks: false,
             below: Vec::new(alloc),
-            below_at_start: Vec::new(alloc),
+            low_at_start: Vec::new(alloc),
         }
     }
 

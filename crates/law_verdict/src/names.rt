@@ -122,8 +122,8 @@ pub fn fault_name(sign: Sign) -> &'static str
         Sign::ServersTakenTwice | Sign::SharesTakenAgain => {
             "shares are taken again (KERNEL, \"Hotplug and partitions\")"
         }
-        Sign::BelowAtStart => {
-            "extra_bw was below 0 before the record (KERNEL, \"Hotplug and partitions\")"
+        Sign::LowAtStart => {
+            "extra_bw was too low before the record (KERNEL, \"Hotplug and partitions\")"
         }
     }
 }
