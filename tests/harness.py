@@ -249,11 +249,11 @@ def verdicts(folder):
         table = told("verdicts.py", "--out", folder, "--head", "kernel K", name, GRUBTRACE=f"{folder}/checker")
         wrong += differs("status of the table", table.returncode, wanted)
         for output, made in ((ktap.stdout, f"# made by {MADE}"), (table.stdout, f"       made by {MADE}")):
-            wrong += differs("the command is told", made in output, line.startswith("not ok") or name in ("nothing", "hang", "read") and output is ktap.stdout)
+            wrong += differs("the command is told", made in output, line.startswith("not ok") or name in ("nothing", "hang", "read", "rebuilt") and output is ktap.stdout)
         TRIED.add(f"the load {name}", wrong)
     names = [it[0] for it in LOADS if it[0] not in ("lost", "fault", "nothing", "zombie")]
     done = told("verdicts.py", "--ktap", "--out", folder, "--head", "kernel K", *names, GRUBTRACE=f"{folder}/checker")
-    wrong = differs("the counts", done.stdout.splitlines()[-1], "# Totals: pass:5 fail:8 xfail:2 xpass:0 skip:0 error:0")
+    wrong = differs("the counts", done.stdout.splitlines()[-1], "# Totals: pass:5 fail:8 xfail:3 xpass:0 skip:0 error:0")
     wrong += differs("status", done.returncode, 4) + differs("plan", done.stdout.splitlines()[1], f"1..{len(names)}")
     wrong += [f"lacks {it}" for it in ("#   runtime of gr_3 (pid 133): 2972418 by the rules", f"# record: {folder}/values.txt") if it not in done.stdout]
     TRIED.add("all loads", wrong)
