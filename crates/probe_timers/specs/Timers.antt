@@ -23,7 +23,6 @@ use Rattle.probe_run.specs.Sums.{forget, forget_all, forget_unlocked}
 use Rattle.probe_run.specs.Counting.{where_it_holds}
 use Rattle.probe_run.specs.Begin.{pend_lock, pend_return, own_timer, without_timer_to_arm}
 use Rattle.probe_values.specs.Shown.{same_signed, address_agrees}
-use Rattle.probe_timers.specs.Marks.{opened_if}
 
 -- inactive_task_timer, before its lock: from here on it runs
 abbrev pub forget_past : State → Bool → State
@@ -62,9 +61,12 @@ is_inactive cpu p = (p.cpu == cpu) && not p.is_active
 abbrev pub goes_offline : State → Actor → Bool
 goes_offline s a = a.entity.budget.is_throttled && (a.entity.is_queued && list_any (is_inactive a.cpu) s.processors)
 
+abbrev pub forgets_offline : Bool → State → State
+forgets_offline goes s = if goes then forget_unlocked s else s
+
 abbrev pub replenish_actor : State → ℕ → Actor → Option ℕ → State
 replenish_actor s n a served_by =
-    opened_if (goes_offline s a)
+    forgets_offline (goes_offline s a)
     (keep_at s n (record a { entity = replenish_fired_of (record a.entity { donor = donor_by a served_by a.address }) }))
 
 abbrev pub replenish_fired_by : State → Option ℕ → Option ℕ → State

@@ -10,7 +10,7 @@ use probe_run::{Actor, Run};
 use std::alloc::AllocError;
 use trace_data::Mark;
 
-pub(crate) fn open_if(run: &mut Run, opens: bool)
+fn open_if(run: &mut Run, opens: bool)
     ensures state { state_of run.new ≡ opened_if opens (state_of run.old) }
     ensures first { (state_of run.new).first ≡ (state_of run.old).first }
 {

@@ -6,9 +6,8 @@ ghost use Rattle.probe_run.specs.Runs.{state_of};
 ghost use Rattle.probe_run.specs.State.{actor_at};
 ghost use Rattle.probe_run.specs.Begin.{pend_return};
 ghost use Rattle.std.specs.List.{list_any};
-ghost use Rattle.probe_timers.specs.Timers.{forget_past, has_left, fired_actor, zero_lag_fired_by, own_parameters, donor_kept, donor_by, is_inactive, goes_offline, replenish_actor, replenish_fired_by};
+ghost use Rattle.probe_timers.specs.Timers.{forget_past, has_left, fired_actor, zero_lag_fired_by, own_parameters, donor_kept, donor_by, is_inactive, goes_offline, forgets_offline, replenish_actor, replenish_fired_by};
 
-use crate::marks::open_if;
 use kernel_changes::replenish_fired_by;
 use kernel_entity::Entity;
 use kernel_functions::Delayed;
@@ -141,6 +140,16 @@ fn goes_offline(run: &Run, actor: Actor) -> bool
         && is_inactive(run.processors(), actor.cpu)
 }
 
+/// Another CPU may read `extra_bw` between the two: it is taken anew from the next line that shows it.
+fn forget_offline(run: &mut Run, goes: bool)
+    ensures state { state_of run.new ≡ forgets_offline goes (state_of run.old) }
+    ensures first { (state_of run.new).first ≡ (state_of run.old).first }
+{
+    if goes {
+        run.forget_unlocked();
+    }
+}
+
 fn replenish(
     run: &mut Run,
     rules: PlayRules,
@@ -161,9 +170,9 @@ fn replenish(
     if entity.is_late && !actor.entity.is_late {
         run.note_entity(place, number, ExactRule::ReplenishedBlocked)?;
     }
-    let opens = goes_offline(run, actor);
+    let goes = goes_offline(run, actor);
     run.keep(number, Actor { entity, ..actor });
-    open_if(run, opens);
+    forget_offline(run, goes);
     Ok(())
 }
 
