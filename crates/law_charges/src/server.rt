@@ -13,7 +13,7 @@ use law_findings::{
     is_taken_once, is_within, left, nanos_of,
 };
 use std::alloc::{AllocError, Global};
-use trace_data::{Picked, ServerIdled, ServerStarted, Updated};
+use trace_data::{IdleCharge, Picked, ServerIdled, ServerStarted, Updated};
 
 /// A server's reservation, in nanoseconds.
 #[derive(Clone, Copy)]
@@ -31,6 +31,9 @@ struct ServerCharge {
 
     /// It is for time in which the CPU was idle.
     is_idle: bool,
+
+    /// Until when, on `clock_task`, where the line is of `put_prev_task_idle`.
+    idle_until: Option<u64>,
 }
 
 /// A server.
@@ -51,6 +54,7 @@ struct ShownServer {
     budget: i64,
     deadline: u64,
     kind: LineKind,
+    idle_until: Option<u64>,
 }
 
 const NEW: Server = Server {
@@ -132,6 +136,7 @@ impl Servers {
             budget: line.runtime,
             deadline: line.deadline,
             kind: LineKind::ServerPick,
+            idle_until: None,
         };
         self.show(judged, read, shown, None)
     }
@@ -149,6 +154,7 @@ impl Servers {
             budget: line.budget.runtime,
             deadline: line.budget.deadline,
             kind: LineKind::Update,
+            idle_until: None,
         };
         self.show(judged, read, shown, Some(nanos_of(line.ran)))
     }
@@ -160,15 +166,35 @@ impl Servers {
         read: ReadLine,
         line: &ServerIdled,
     ) -> Result<(), AllocError> {
+        if self.is_told(line) {
+            return Ok(());
+        }
         let shown = ShownServer {
             cpu: line.cpu,
             clock: line.clock,
             budget: line.runtime,
             deadline: line.deadline,
             kind: LineKind::ServerIdle,
+            idle_until: match line.charge {
+                IdleCharge::EndOfIdle => Some(line.now),
+                IdleCharge::Update => None,
+            },
         };
         let nanos = line.now.wrapping_sub(line.start).cast_signed();
         self.show(judged, read, shown, Some(nanos))
+    }
+
+    /// Whether `put_prev_task_idle` has told of this charge: where it is not inlined, `dl_server_update_idle_time` is called by it, and
+    /// has a line too.
+    fn is_told(&self, line: &ServerIdled) -> bool {
+        match (line.charge, self.of(line.cpu).charge) {
+            (IdleCharge::Update, Some(charge)) => {
+                charge.idle_until == Some(line.now)
+                    && charge.budget == line.runtime
+                    && charge.deadline == line.deadline
+            }
+            _ => false,
+        }
     }
 
     /// A line shows a server; `nanos` of a charge.
@@ -196,6 +222,7 @@ impl Servers {
                     deadline: shown.deadline,
                     nanos,
                     is_idle: shown.kind == LineKind::ServerIdle,
+                    idle_until: shown.idle_until,
                 }),
                 _ => None,
             };
