@@ -30,7 +30,7 @@ fn pushed(radix: u64, value: u64, byte: u8) -> Option<u64>
     }
 }
 
-/// The same of a decimal number: below this no digit more makes it too great.
+/// A decimal number below this fits 64 bits with one digit more.
 pub(crate) const FEW: u64 = 1844674407370955161;
 
 fn pushed_decimal(value: u64, byte: u8) -> Option<u64>

@@ -32,7 +32,7 @@ fn word_value(kind: FieldKind, text: &[u8]) -> Option<(FieldValue, Option<&[u8]>
     Some((value, rest))
 }
 
-/// The same; most words are decimal numbers.
+/// The same, where a decimal number, as most words are, is read in one scan.
 fn front_value(kind: FieldKind, text: &[u8]) -> Option<(FieldValue, Option<&[u8]>)>
     ensures { option_map next_text result
         ≡ option_map (λ v. (v, behind_word text.now)) (value_of kind (word_of text.now)) }
