@@ -6,7 +6,7 @@ use kernel_changes::cost_by;
 use kernel_entity::{ChargedRunqueue, RECLAIM, charged, has};
 use probe_explain::ProbeLine;
 use probe_run::{Actor, Effect, PlayRules, Run, UnlockedSum, is_special};
-use probe_tasks::{AS_SHOWN, LineChoice};
+use probe_tasks::{AS_SHOWN, LineChoice, law_shown};
 use std::collections::VecDeque;
 use trace_data::{Enqueued, Probe, Ran, Sums, Updated};
 
@@ -48,7 +48,7 @@ fn left(rules: PlayRules, actor: &Actor, line: &Updated, extra_bw: u64, nanos: u
     entity.budget = line.budget;
     let cost = cost_by(
         rules.change,
-        rules.law,
+        law_shown(rules.law, line.ran),
         entity,
         runqueue_of(line, extra_bw),
         nanos,

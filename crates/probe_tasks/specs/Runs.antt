@@ -6,6 +6,7 @@ use Rattle.trace_data.specs.declared.probe.Ran.{Ran}
 use Rattle.trace_data.specs.declared.probe.Ran.TheVariants.{Span, Clocks}
 use Rattle.kernel_entity.specs.declared.charge.ChargedRunqueue.{ChargedRunqueue}
 use Rattle.kernel_entity.specs.declared.charge.ChargeLaw.{ChargeLaw}
+use Rattle.kernel_entity.specs.declared.charge.ChargeLaw.TheVariants.{LinuxBefore65, LinuxFrom65, Documentation}
 use Rattle.kernel_entity.specs.declared.entity.Entity.{Entity}
 use Rattle.kernel_entity.specs.declared.flags.TheConstants.{RECLAIM}
 use Rattle.kernel_entity.specs.Clock.{less, times, signed, contains_bits}
@@ -32,6 +33,16 @@ delta_by (Clocks now start entity max_bw) = signed (less now start)
 abbrev pub max_bw_by : Ran → ℕ
 max_bw_by (Span delta max_bw) = max_bw
 max_bw_by (Clocks now start entity max_bw) = unwrap_or max_bw 0
+
+abbrev pub shows_max_bw : Ran → Bool
+shows_max_bw (Span delta max_bw) = true
+shows_max_bw (Clocks now start entity max_bw) = not (is_none max_bw)
+
+-- grub_reclaim's equation: that with max_bw, where the runqueue has it, else that before 6.5; the documentation's, where that is asked for
+abbrev pub law_shown : ChargeLaw → Ran → ChargeLaw
+law_shown Documentation r = Documentation
+law_shown LinuxBefore65 r = if shows_max_bw r then LinuxFrom65 else LinuxBefore65
+law_shown LinuxFrom65 r = if shows_max_bw r then LinuxFrom65 else LinuxBefore65
 
 abbrev pub has_run : Updated → Bool
 has_run u = int_lt (pos 0) (delta_by u.ran)
@@ -64,7 +75,7 @@ capacity_may s u = not (has_run u) || capacity_agrees u.speed.capacity (processo
 abbrev pub full_cost : PlayRules → State → Entity → Updated → Option ℕ → ℕ
 full_cost t s e u later =
     let nanos = cast_unsigned w64 (delta_by u.ran) in
-    if contains_bits e.parameters.flags RECLAIM then cost_of t.law e (charged_runqueue_of u later) nanos
+    if contains_bits e.parameters.flags RECLAIM then cost_of (law_shown t.law u.ran) e (charged_runqueue_of u later) nanos
     else scaled_span nanos (unwrap_or u.speed.frequency 1024) (capacity_of s u)
 
 -- where no line shows the frequency, a charge without the flag may have cost less

@@ -5,11 +5,11 @@ ghost use Rattle.std.specs.Prelude.{◌≡◌, ◌&&◌, None, OnOk, is_none};
 ghost use Rattle.probe_run.specs.Runs.{state_of};
 ghost use Rattle.probe_run.specs.Counting.{Holds};
 ghost use Rattle.probe_run.specs.Begin.{processor_of};
-ghost use Rattle.probe_tasks.specs.Runs.{delta_by, max_bw_by, has_run, charged_runqueue_of, scaled_span, capacity_of, capacity_agrees, capacity_may, full_cost, cost_may_be, charged_by};
+ghost use Rattle.probe_tasks.specs.Runs.{delta_by, max_bw_by, shows_max_bw, law_shown, has_run, charged_runqueue_of, scaled_span, capacity_of, capacity_agrees, capacity_may, full_cost, cost_may_be, charged_by};
 
 use crate::choice::LineChoice;
 use kernel_changes::{charging_by, cost_by};
-use kernel_entity::{Charge, ChargedRunqueue, Entity, RECLAIM, charged, has};
+use kernel_entity::{Charge, ChargeLaw, ChargedRunqueue, Entity, RECLAIM, charged, has};
 use probe_findings::{ExactValue, ProbedLine, Quantity};
 use probe_run::{ComparedValue, Counted, PlayRules, Run};
 use std::alloc::AllocError;
@@ -32,6 +32,32 @@ fn max_bw_of(ran: Ran) -> u64
     match ran {
         Ran::Span { max_bw, .. } => max_bw,
         Ran::Clocks { max_bw, .. } => max_bw.unwrap_or(0),
+    }
+}
+
+fn shows_max_bw(ran: Ran) -> bool
+    ensures { result ≡ shows_max_bw ran }
+{
+    match ran {
+        Ran::Span { .. } => true,
+        Ran::Clocks { max_bw, .. } => max_bw.is_some(),
+    }
+}
+
+/// Whose equation a charge is by (`grub_reclaim`): that with `max_bw`, where its line shows that the runqueue has it, else that
+/// before 6.5; the documentation's, where a record is played by that.
+pub fn law_shown(law: ChargeLaw, ran: Ran) -> ChargeLaw
+    ensures { result ≡ law_shown law ran }
+{
+    match law {
+        ChargeLaw::Documentation => ChargeLaw::Documentation,
+        ChargeLaw::LinuxBefore65 | ChargeLaw::LinuxFrom65 => {
+            if shows_max_bw(ran) {
+                ChargeLaw::LinuxFrom65
+            } else {
+                ChargeLaw::LinuxBefore65
+            }
+        }
     }
 }
 
@@ -80,10 +106,11 @@ pub(crate) fn full_cost(
 {
     let nanos = delta_of(line.ran).cast_unsigned();
     let runqueue = charged_runqueue(line, later);
+    let law = law_shown(rules.law, line.ran);
     match rules.change {
         None => {
             if has(entity.parameters.flags, RECLAIM) {
-                cost_by(None, rules.law, entity, runqueue, nanos)
+                cost_by(None, law, entity, runqueue, nanos)
             } else {
                 scaled(
                     nanos,
@@ -93,14 +120,14 @@ pub(crate) fn full_cost(
             }
         }
         Some(change) => {
-            match charging_by(Some(change), rules.law, entity, runqueue) {
+            match charging_by(Some(change), law, entity, runqueue) {
                 Charge::InFull => scaled(
                     nanos,
                     line.speed.frequency.unwrap_or(1024),
                     capacity(run, line),
                 ),
                 Charge::ByItsBandwidth | Charge::ByWhatIsLeft => {
-                    cost_by(Some(change), rules.law, entity, runqueue, nanos)
+                    cost_by(Some(change), law, entity, runqueue, nanos)
                 }
             }
         }

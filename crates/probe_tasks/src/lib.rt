@@ -14,6 +14,7 @@ mod tasks;
 
 pub use admissions::admitted;
 pub use choice::{AS_SHOWN, LineChoice};
+pub use costs::law_shown;
 pub use enqueues::enqueued;
 pub use exits::left_class;
 pub use runs::updated;

@@ -12,7 +12,7 @@ ghost use Rattle.probe_tasks.specs.Runs.{capacity_may, cost_may_be, claim_later,
 
 use crate::choice::LineChoice;
 use crate::costs::{
-    can_cost, charged_runqueue, check_capacity, delta_of, full_cost, ran, with_charge,
+    can_cost, charged_runqueue, check_capacity, delta_of, full_cost, law_shown, ran, with_charge,
 };
 use kernel_changes::{charging_by, spend_by};
 use kernel_entity::{Charge, Entity};
@@ -435,7 +435,8 @@ fn note_charge(
     if choice.cost.is_some() {
         return run.note_entity(charge.place, charge.number, ExactRule::SpeedUnknown);
     }
-    let rule = match charging_by(rules.change, rules.law, entity, runqueue) {
+    let law = law_shown(rules.law, line.ran);
+    let rule = match charging_by(rules.change, law, entity, runqueue) {
         Charge::InFull => ExactRule::ChargeInFull,
         Charge::ByItsBandwidth => ExactRule::ChargeByItsBandwidth,
         Charge::ByWhatIsLeft => ExactRule::ChargeByWhatIsLeft,

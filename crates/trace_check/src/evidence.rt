@@ -4,6 +4,7 @@ use check_record::Played;
 use kernel_entity::ChargeLaw;
 use probe_findings::{Deviation, Quantity, Subject, Whose};
 use probe_run::{Actor, FirstNotes, Run};
+use probe_tasks::law_shown;
 use probe_verdict::{Evidence, RuleNumbers};
 use std::alloc::{AllocError, Global};
 use std::io;
@@ -38,6 +39,8 @@ enum Bearing {
 pub(crate) struct Sought {
     first: Deviation,
     notes: FirstNotes,
+
+    /// Whose equation the last charge is by.
     law: ChargeLaw,
     bearing: Bearing,
 
@@ -202,8 +205,14 @@ impl Sought {
         self.number = self.number.saturating_add(1);
         let since = self.first.since.line;
         let is_between = self.notes.right < self.number && self.number <= self.last();
-        if is_between || self.number == since {
+        let is_charge = self.number == self.notes.charge.map_or(0, |charge| charge.line);
+        if is_between || is_charge || self.number == since {
             if let Some(probe) = probe_in(&self.carry) {
+                if let Probe::Updated(line) = probe
+                    && is_charge
+                {
+                    self.law = law_shown(self.law, line.ran);
+                }
                 if self.number == since {
                     self.cause = Some(probe);
                 }
