@@ -309,7 +309,7 @@ fn play(
             }
         }
         Probe::ServerIdled(_) => Ok(()),
-        Probe::Mark(mark) => marked(run, *mark),
+        Probe::Mark(mark) => marked(run, place, *mark),
     }
 }
 

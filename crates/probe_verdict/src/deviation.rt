@@ -213,7 +213,7 @@ fn put_since(
     ensures { OnOk result (Extends out.old.items out.new.items) }
 {
     match since.rule {
-        None => put(out, "  no rule has changed it since it was first seen\n"),
+        None => put_unruled(alloc, out, since, event, kernel),
         Some(rule) => {
             put_rule(alloc, out, since, rule)?;
             put_functions(
@@ -223,6 +223,34 @@ fn put_since(
                 function_of(event, kernel),
             )
         }
+    }
+}
+
+/// No rule of a task has changed the value: it was only seen, or root domains were rebuilt.
+fn put_unruled(
+    alloc: Global,
+    out: &mut Vec<u8>,
+    since: Why,
+    event: ProbedFunction,
+    kernel: Option<Kernel>,
+) -> Result<(), AllocError>
+    ensures { OnOk result (Extends out.old.items out.new.items) }
+{
+    match since.event {
+        ProbedFunction::RebuildTask => {
+            let line = since.line;
+            let text = format!(in alloc;
+                "  last changed at line {line}, reb, since root domains were rebuilt\n"
+            )?;
+            put(out, text.as_str())?;
+            put_functions(
+                alloc,
+                out,
+                function_of(since.event, kernel),
+                function_of(event, kernel),
+            )
+        }
+        _ => put(out, "  no rule has changed it since it was first seen\n"),
     }
 }
 
