@@ -3,8 +3,10 @@
 
 mod change;
 mod clock;
+mod comment;
 mod fixed;
 mod line;
+mod named_cpu;
 mod note;
 mod reader;
 mod scheduled;

@@ -6,24 +6,26 @@ ghost use Rattle.memchr.specs.Find.{is_byte};
 ghost use Rattle.trace_fields.specs.Head.{is_lost};
 ghost use Rattle.trace_fields.specs.Opening.{opening_of};
 ghost use Rattle.trace_fields.specs.inside.OpeningFits.{StartsWithin};
-ghost use Rattle.trace_lines.specs.Lines.{checked, comment_line, event_line, fixed_cpu, flaw_of, grain_behind, grain_of, head_line, line_behind, mark_cpu, note_cpu, note_line, noted_line, other_line, probe_cpu, probed, said_by, said_cpu, said_or_bad, told_by, told_line, told_said};
-ghost use Rattle.trace_lines.specs.inside.Texts.{named_text, noted_text};
+ghost use Rattle.trace_lines.specs.Lines.{checked, event_line, grain_behind, grain_of, line_behind, other_line, probed, said_by, said_or_bad, told_by, told_line, told_said};
+ghost use Rattle.trace_lines.specs.inside.Texts.{named_text};
 ghost use Rattle.trace_lines.specs.ToldTexts.{told_text};
 
 use crate::change::{CpuChange, change_of};
+use crate::comment::comment_line;
 use crate::fixed::{
     Named, called, cancelled, fired, migrated, ran, returned, started, switched, woken,
 };
-use crate::note::{Lost, Noted, note_of};
+use crate::named_cpu::{flaw_of, probe_cpu};
+use crate::note::Lost;
 use crate::scheduled::{Scheduled, waking};
 use crate::verb::{Verb, is_waking, verb_of};
 use crate::word::CPUS;
 use memchr::memchr;
 use text_bytes::first_word;
-use trace_data::{Fixed, Flaw, Mark, Probe, RecordLine, Said, TraceNote};
+use trace_data::{Flaw, RecordLine, Said};
 use trace_fields::{
-    Opening, Shown, is_comment, is_lost, opening_of, processors, running, running_comm,
-    running_task, shown_by, without_spaces,
+    Opening, Shown, is_comment, is_lost, opening_of, running, running_comm, running_task,
+    without_spaces,
 };
 use trace_probes::{ProbeEvent, probe_of};
 
@@ -60,7 +62,8 @@ pub struct ToldLine<T> {
     pub scheduled: Option<Scheduled<T>>,
 }
 
-fn told_line<'a>(line: RecordLine) -> ToldLine<&'a [u8]>
+/// A line with nothing beside it.
+pub(crate) fn told_line<'a>(line: RecordLine) -> ToldLine<&'a [u8]>
     ensures { told_text result ≡ told_line line }
 {
     ToldLine {
@@ -84,129 +87,6 @@ fn flawed_line<'a>(flaw: Flaw) -> ToldLine<&'a [u8]>
     ensures { told_text result ≡ told_line (RecordLine.Flawed flaw) }
 {
     told_line(RecordLine::Flawed(flaw))
-}
-
-fn note_cpu(note: &TraceNote) -> u32
-    ensures { result ≡ note_cpu note.now }
-{
-    match *note {
-        TraceNote::Runqueue { cpu, .. }
-        | TraceNote::Capacity { cpu, .. }
-        | TraceNote::Task { cpu, .. } => cpu,
-        _ => 0,
-    }
-}
-
-fn note_line(note: TraceNote) -> RecordLine
-    ensures { result ≡ note_line note }
-{
-    if note_cpu(&note) >= CPUS {
-        RecordLine::Flawed(Flaw::TooLong)
-    } else {
-        RecordLine::Note(note)
-    }
-}
-
-/// A line of the head that says how many processors there are.
-fn head_line<'a>(processors: Option<u32>) -> ToldLine<&'a [u8]>
-    ensures { told_text result ≡ head_line processors }
-{
-    ToldLine {
-        line: RecordLine::Quiet,
-        shown: None,
-        domain: None,
-        release: None,
-        lost: None,
-        processors,
-        warning: None,
-        governor: None,
-        change: None,
-        scheduled: None,
-    }
-}
-
-fn noted_line<'a>(line: &'a [u8], noted: Noted<&'a [u8]>) -> ToldLine<&'a [u8]>
-    ensures { told_text result ≡ noted_line line.now (noted_text noted.entry) }
-{
-    match noted {
-        Noted::Quiet => head_line(processors(line)),
-        Noted::Head {
-            note,
-            domain,
-            release,
-        } => ToldLine {
-            line: note_line(note),
-            shown: None,
-            domain,
-            release,
-            lost: None,
-            processors: None,
-            warning: None,
-            governor: None,
-            change: None,
-            scheduled: None,
-        },
-        Noted::Task { note, pid, comm } => ToldLine {
-            line: note_line(note),
-            shown: Some(Shown { comm, pid }),
-            domain: None,
-            release: None,
-            lost: None,
-            processors: None,
-            warning: None,
-            governor: None,
-            change: None,
-            scheduled: None,
-        },
-        Noted::Other { note } => told_line(note_line(note)),
-        Noted::Lost { lost } => ToldLine {
-            line: RecordLine::Quiet,
-            shown: None,
-            domain: None,
-            release: None,
-            lost: Some(lost),
-            processors: None,
-            warning: None,
-            governor: None,
-            change: None,
-            scheduled: None,
-        },
-        Noted::Warning { text } => ToldLine {
-            line: RecordLine::Quiet,
-            shown: None,
-            domain: None,
-            release: None,
-            lost: None,
-            processors: None,
-            warning: Some(text),
-            governor: None,
-            change: None,
-            scheduled: None,
-        },
-        Noted::Governor { text } => ToldLine {
-            line: RecordLine::Quiet,
-            shown: None,
-            domain: None,
-            release: None,
-            lost: None,
-            processors: None,
-            warning: None,
-            governor: Some(text),
-            change: None,
-            scheduled: None,
-        },
-    }
-}
-
-/// What a line tells that begins with `#`.
-#[inline(never)]
-fn comment_line(line: &[u8]) -> ToldLine<&[u8]>
-    ensures { told_text result ≡ comment_line line.now }
-{
-    match note_of(line) {
-        None => told_line(RecordLine::Flawed(Flaw::BadTraceLine)),
-        Some(noted) => noted_line(line, noted),
-    }
 }
 
 fn dot_from_end(text: &[u8]) -> Option<usize>
@@ -234,69 +114,6 @@ fn grain_of(text: &[u8]) -> u64
     match dot_from_end(text) {
         None => 1,
         Some(count) => grain_behind(count),
-    }
-}
-
-fn fixed_cpu(fixed: &Fixed) -> u32
-    ensures { result ≡ fixed_cpu fixed.now }
-{
-    match *fixed {
-        Fixed::Woken { cpu, .. } | Fixed::Migrated { cpu, .. } => cpu,
-        _ => 0,
-    }
-}
-
-fn mark_cpu(mark: &Mark) -> u32
-    ensures { result ≡ mark_cpu mark.now }
-{
-    match *mark {
-        Mark::DomainAttached { cpu, .. }
-        | Mark::BandwidthTaken { cpu }
-        | Mark::BandwidthFreed { cpu }
-        | Mark::AffinitySet { cpu, .. }
-        | Mark::ServerChanged { cpu, .. }
-        | Mark::CpuDeactivated { cpu }
-        | Mark::CpuActivated { cpu } => cpu,
-        Mark::LimitHandled { .. } | Mark::TaskRebuilt { .. } => 0,
-    }
-}
-
-fn probe_cpu(probe: &Probe) -> u32
-    ensures { result ≡ probe_cpu probe.now }
-{
-    match probe {
-        Probe::Enqueued(enqueued) => enqueued.cpu,
-        Probe::Updated(updated) => updated.cpu,
-        Probe::Dequeued(dequeued) => dequeued.cpu,
-        Probe::LeftClass(left) => left.cpu,
-        Probe::Admitted(admitted) => admitted.cpu,
-        Probe::ServerStarted(started) => started.cpu,
-        Probe::Picked(picked) => picked.cpu,
-        Probe::ServerStopped(stopped) => stopped.cpu,
-        Probe::ServerIdled(idled) => idled.cpu,
-        Probe::Mark(mark) => mark_cpu(mark),
-        _ => 0,
-    }
-}
-
-/// The CPU that an event names beside its line's, or 0.
-fn said_cpu(said: &Said) -> u32
-    ensures { result ≡ said_cpu said.now }
-{
-    match said {
-        Said::Fixed(fixed) => fixed_cpu(fixed),
-        Said::Probe(probe) => probe_cpu(probe),
-    }
-}
-
-/// What is wrong with a line of an event, by its CPU.
-fn flaw_of(cpu: u32, said: &Said) -> Option<Flaw>
-    ensures { result ≡ flaw_of cpu said.now }
-{
-    if cpu.max(said_cpu(said)) >= CPUS {
-        Some(Flaw::TooLong)
-    } else {
-        None
     }
 }
 
