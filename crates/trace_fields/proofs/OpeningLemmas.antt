@@ -1,10 +1,10 @@
 -- The spaces at the front of a line tell nothing of its opening.
-use Rattle.std.proofs.Common.{◌≡◌, ℕ, suc, ◌+◌, ◌-◌, Bool, true, false, not, cond, List, [], ◌∷◌, length, drop, Option, None, refl, sym, ◌∙◌, ap, arith}
+use Rattle.std.proofs.Common.{◌≡◌, ℕ, suc, ◌+◌, ◌-◌, Bool, true, false, not, cond, List, [], ◌∷◌, length, drop, Option, refl, sym, ◌∙◌, ap, arith}
 use Rattle.std.proofs.lemmas.List.{length-drop}
 use Rattle.std.proofs.lemmas.List.Sums.{prefix_len-le-length}
 use Rattle.std.specs.List.{onto_first, position_or_len}
 use Rattle.text_bytes.specs.Lines.{is_space, words_of}
-use Rattle.trace_fields.specs.Opening.{opening_from, opening_of}
+use Rattle.trace_fields.specs.Opening.{opening_from}
 use Rattle.trace_fields.specs.Words.{without_spaces}
 use Rattle.trace_fields.specs.declared.opening.CpuWord.{CpuWord}
 
@@ -31,12 +31,12 @@ spaces_pass n c (x ∷ xs) =
     ] in
     go (is_space x) refl
 
-spaces_fit : (xs : List ℕ) → length xs - length (without_spaces xs) ≡ 0 + spaces_in xs
+spaces_fit : (xs : List ℕ) → length xs - length (without_spaces xs) ≡ spaces_in xs
 spaces_fit xs = (let k = length-drop (spaces_in xs) xs in let h = prefix_len-le-length (λ b. not (not (is_space b))) xs in omega (arith, k, h))
 
 -- the opening is that of the text behind them
-pub behind_spaces : (xs : List ℕ) → opening_from (length xs - length (without_spaces xs)) None (words_of (without_spaces xs)) ≡ opening_of xs
-behind_spaces xs = ap (λ (k : ℕ). opening_from k None (words_of (without_spaces xs))) (spaces_fit xs) ∙ spaces_pass 0 None xs
+pub behind_spaces : (xs : List ℕ) (n : ℕ) (c : Option CpuWord) → opening_from (n + (length xs - length (without_spaces xs))) c (words_of (without_spaces xs)) ≡ opening_from n c (words_of xs)
+behind_spaces xs n c = ap (λ (k : ℕ). opening_from (n + k) c (words_of (without_spaces xs))) (spaces_fit xs) ∙ spaces_pass n c xs
 
 pub spaces_len : (xs : List ℕ) → length xs - length (without_spaces xs) + length (without_spaces xs) ≡ length xs
 spaces_len xs = (let k = length-drop (spaces_in xs) xs in omega (arith, k))

@@ -19,8 +19,8 @@ pub fn begins(text: &[u8], key: &[u8]) -> bool
     }
 }
 
-/// Whether a word has a key at its front.
-fn has_key(key: &[u8], word: &[u8]) -> bool
+/// Whether a word has a key at its front. Keys are short, and most differ soon.
+pub fn has_key(key: &[u8], word: &[u8]) -> bool
     ensures is { result ≡ bytes_eq (take (length key.now) word.now) key.now }
     ensures fits { IsTrue result → length key.now ≤ length word.now }
 {

@@ -1,9 +1,10 @@
 //! What stands in front of a line's event: the task that runs, the CPU, the moment.
 
-ghost use Rattle.std.specs.Prelude.{◌≡◌, ◌==◌, ◌≤◌, ◌+◌, IfSome, None, length, not, position, reverse};
+ghost use Rattle.std.specs.Prelude.{ℕ, ◌≡◌, ◌==◌, ◌≤◌, ◌+◌, IfSome, Option, length, not, position, reverse};
 ghost use Rattle.std.specs.Char.{is_ascii_digit};
 ghost use Rattle.text_bytes.specs.Lines.{is_space, words_of};
 ghost use Rattle.trace_fields.specs.Opening.{before_brackets, last_digits, later_cpu, opening_from, opening_of, running, running_comm, trimmed, without_last};
+ghost use Rattle.trace_fields.specs.declared.opening.CpuWord.{CpuWord};
 ghost use Rattle.trace_fields.specs.inside.OpeningFits.{StartsWithin};
 
 use crate::decimal::{bracketed, moment, number};
@@ -34,14 +35,15 @@ pub struct Opening {
     pub end: usize,
 }
 
-/// The text of a line behind the spaces at its front, and how many these are.
+/// How many spaces stand at the front of a text, and the text behind them: they tell nothing of an opening.
 #[tactic(auto, using(crate::proofs::OpeningLemmas::behind_spaces, crate::proofs::OpeningLemmas::spaces_len))]
-fn behind_spaces(line: &[u8]) -> (usize, &[u8])
-    ensures opening { opening_from result.0 None (words_of result.1.now) ≡ opening_of line.now }
-    ensures len { result.0 + length result.1.now ≡ length line.now }
+fn past_spaces(text: &[u8]) -> (usize, &[u8])
+    ensures opening { (n : ℕ) (cpu : Option CpuWord) →
+        opening_from (n + result.0) cpu (words_of result.1.now) ≡ opening_from n cpu (words_of text.now) }
+    ensures len { result.0 + length result.1.now ≡ length text.now }
 {
-    let text = without_spaces(line);
-    (line.len().saturating_sub(text.len()), text)
+    let rest = without_spaces(text);
+    (text.len().saturating_sub(rest.len()), rest)
 }
 
 /// What a line has up to its moment, where it has one.
@@ -50,7 +52,7 @@ pub fn opening_of(line: &[u8]) -> Option<Opening>
     ensures end { IfSome result (λ opening. opening.end ≤ length line.now) }
     ensures cpu { IfSome result (λ opening. StartsWithin opening.cpu (length line.now)) }
 {
-    let (mut start, mut text) = behind_spaces(line);
+    let (mut start, mut text) = past_spaces(line);
     let mut cpu = None;
     loop {
         let (word, rest) = first_word(text);
@@ -58,9 +60,10 @@ pub fn opening_of(line: &[u8]) -> Option<Opening>
         if let Some(at) = moment(word) {
             return Some(Opening { at, cpu, end });
         }
-        text = rest?;
+        let (spaces, behind) = past_spaces(rest?);
         cpu = later_cpu(cpu, word, start);
-        start = end + 1;
+        start = end + 1 + spaces;
+        text = behind;
     }
 }
 

@@ -8,8 +8,9 @@ use Rattle.text_bytes.specs.Lines.{is_space, word_of, words_of}
 use Rattle.std.proofs.lemmas.List.{take_rest}
 use Rattle.std.proofs.lemmas.Grind.{common_steps}
 use Rattle.text_bytes.proofs.Splits.{has_part}
-use Rattle.trace_probes.specs.Numerals.{after, digits_from, positive, pushed, signed, unsigned}
-use Rattle.trace_probes.specs.Fields.{key_of, kind_of, next_value, value_of}
+use Rattle.trace_fields.specs.Numbers.{after}
+use Rattle.trace_probes.specs.Numerals.{digits_from, positive, pushed, signed, unsigned}
+use Rattle.trace_probes.specs.Fields.{has_field, key_of, kind_of, next_value, value_of}
 use Rattle.trace_probes.specs.declared.field.Field.{Field}
 use Rattle.trace_probes.specs.declared.field.Field.TheVariants.{Pid, Cpu, Flags, Clock, Runtime, Deadline, Throttled, Yielded, NonContending, DlRuntime, DlDeadline, DlPeriod, SchedFlags, OnRq, NormalPrio, Entity, ServedBy, DonorRuntime, DonorDeadline, DonorPeriod, ThisBw, RunningBw, ExtraBw, MaxBw, BwRatio, DeltaExec, ClockTask, ExecStart, State, Current, PolicyBefore, PolicyWanted, Delayed, TotalBw, DomainBw, Timer, FromNow, Expires, Function, Server, FairTasks, Earliest, Active, IsServer, MaxBwShown, FrequencyScale, CpuScale, TimerServedBy, RootDomain, Write}
 use Rattle.trace_probes.specs.declared.field.FieldKind.{FieldKind}
@@ -204,6 +205,14 @@ next_begun field key text kind r b at of is holds e =
     let by_key : r ≡ option_map (λ v. (v, behind_word (take (length text - length (key_of field)) (drop (length (key_of field)) text)))) (value_of kind (word_of (take (length text - length (key_of field)) (drop (length (key_of field)) text)))) = subst (λ (k : List ℕ). r ≡ option_map (λ v. (v, behind_word (take (length text - length k) (drop (length k) text)))) (value_of kind (word_of (take (length text - length k) (drop (length k) text))))) at e in
     let rest : r ≡ option_map (λ v. (v, behind_word (drop (length (key_of field)) text))) (value_of kind (word_of (drop (length (key_of field)) text))) = subst (λ (t : List ℕ). r ≡ option_map (λ v. (v, behind_word t)) (value_of kind (word_of t))) (take_rest text (length (key_of field))) by_key in
     next_here field text r begun (subst (λ (k : FieldKind). r ≡ option_map (λ v. (v, behind_word (drop (length (key_of field)) text))) (value_of k (word_of (drop (length (key_of field)) text)))) of rest)
+
+pub has_later : (field : Field) (text : List ℕ) → bytes_eq (take (length (key_of field)) text) (key_of field) ≡ false → has_field field (words_of text) ≡ has_field field (behind_word text)
+has_later field text is = rw (words_are text, after_none (key_of field) text (key_plain field) is) refl
+
+pub has_begun : (field : Field) (key text : List ℕ) (b : Bool) → key ≡ key_of field → b ≡ bytes_eq (take (length key) text) key → b ≡ true → true ≡ has_field field (words_of text)
+has_begun field key text b at is holds =
+    let begun : bytes_eq (take (length (key_of field)) text) (key_of field) ≡ true = subst (λ (k : List ℕ). bytes_eq (take (length k) text) k ≡ true) at (sym is ∙ holds) in
+    rw (words_are text, after_some (key_of field) text (key_plain field) begun) refl
 
 -- nor is it a number below 0
 minus : (c : ℕ) (r : List ℕ) (n : ℕ) → digits_from 10 0 (c ∷ r) ≡ Some n → (nat_eq c 45 && true) ≡ false

@@ -2,7 +2,8 @@
 use Rattle.std.specs.Prelude.{ℕ, Bool, true, false, not, ◌&&◌, ◌==◌, is_some, List, [], ◌∷◌, codes, Option, Some, None, if◌then◌else◌, option_map, option_and_then, slice_set}
 use Rattle.std.specs.List.{before_first, list_any}
 use Rattle.std.specs.Str.{bytes_eq}
-use Rattle.trace_probes.specs.Numerals.{after, signed, unsigned}
+use Rattle.trace_fields.specs.Numbers.{after}
+use Rattle.trace_probes.specs.Numerals.{signed, unsigned}
 use Rattle.trace_probes.specs.declared.field.Field.{Field}
 use Rattle.trace_probes.specs.declared.field.Field.TheVariants.{Pid, Cpu, Flags, Clock, Runtime, Deadline, Throttled, Yielded, NonContending, DlRuntime, DlDeadline, DlPeriod, SchedFlags, OnRq, NormalPrio, Entity, ServedBy, DonorRuntime, DonorDeadline, DonorPeriod, ThisBw, RunningBw, ExtraBw, MaxBw, BwRatio, DeltaExec, ClockTask, ExecStart, State, Current, PolicyBefore, PolicyWanted, Delayed, TotalBw, DomainBw, Timer, FromNow, Expires, Function, Server, FairTasks, Earliest, Active, IsServer, MaxBwShown, FrequencyScale, CpuScale, TimerServedBy, RootDomain, Write}
 use Rattle.trace_probes.specs.declared.field.FieldKind.{FieldKind}

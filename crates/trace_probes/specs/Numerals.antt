@@ -1,11 +1,7 @@
 -- Numbers as words spell them, where they fit 64 bits. Leading zeros are allowed.
-use Rattle.std.specs.Prelude.{ℕ, ℤ, pos, neg_ℤ, ◌&&◌, ◌==◌, nat_lt, ◌+◌, ◌*◌, ◌^◌, List, [], ◌∷◌, length, take, drop, codes, Option, Some, None, if◌then◌else◌, option_and_then}
-use Rattle.std.specs.Str.{bytes_eq}
+use Rattle.std.specs.Prelude.{ℕ, ℤ, pos, neg_ℤ, ◌&&◌, ◌==◌, nat_lt, ◌+◌, ◌*◌, ◌^◌, List, [], ◌∷◌, length, codes, Option, Some, None, if◌then◌else◌, option_and_then}
 use Rattle.std.specs.Char.{digit_value}
-
--- what follows the key at the front of a word
-abbrev pub after : List ℕ → List ℕ → Option (List ℕ)
-after key word = if bytes_eq (take (length key) word) key then Some (drop (length key) word) else None
+use Rattle.trace_fields.specs.Numbers.{after}
 
 -- a number with one digit more, where that is a digit and the number fits
 abbrev pub pushed : ℕ → ℕ → ℕ → Option ℕ

@@ -1,10 +1,10 @@
 //! Numbers as words spell them, where they fit 64 bits.
 
-ghost use Rattle.std.specs.Prelude.{◌≡◌, ◌≤◌, IsTrue, length, option_map, take};
+ghost use Rattle.std.specs.Prelude.{◌≡◌};
 ghost use Rattle.std.specs.Char.{digit_value};
-ghost use Rattle.std.specs.Str.{bytes_eq};
-ghost use Rattle.trace_probes.specs.Numerals.{after, digits_from, negative, numeral, positive, pushed, signed, unsigned};
-ghost use Rattle.trace_probes.specs.inside.Texts.{text_of};
+ghost use Rattle.trace_probes.specs.Numerals.{digits_from, negative, numeral, positive, pushed, signed, unsigned};
+
+use trace_fields::after;
 
 /// What a byte counts as a digit, from 0 to 35, or 36 where it is none.
 pub(crate) fn digit(byte: u8) -> u64
@@ -88,30 +88,6 @@ pub fn numeral(radix: u64, word: &[u8]) -> Option<u64>
         None
     } else {
         digits(radix, word)
-    }
-}
-
-/// Whether a word begins with a key. Keys are short, and most differ soon.
-pub(crate) fn begins(key: &[u8], word: &[u8]) -> bool
-    ensures is { result ≡ bytes_eq (take (length key.now) word.now) key.now }
-    ensures fits { IsTrue result → length key.now ≤ length word.now }
-{
-    match key {
-        [] => true,
-        [wanted, keys @ ..] => match word {
-            [] => false,
-            [byte, rest @ ..] => *byte == *wanted && begins(keys, rest),
-        },
-    }
-}
-
-fn after<'a>(key: &[u8], word: &'a [u8]) -> Option<&'a [u8]>
-    ensures { option_map text_of result ≡ after key.now word.now }
-{
-    if begins(key, word) {
-        Some(&word[key.len()..])
-    } else {
-        None
     }
 }
 

@@ -11,10 +11,11 @@ use crate::tables::{
     DEQUEUED, DOMAIN_ATTACHED, ENQUEUED, LEFT_CLASS, LIMIT_HANDLED, MIGRATING, OF_CPU, PICKED,
     REPLENISH_FIRED, SERVER_CHANGED, SERVER_IDLED, SERVER_STARTED, SERVER_STOPPED, TASK_REBUILT,
     UPDATED_BY_CLOCKS, UPDATED_BY_SPAN, ZERO_LAG_FIRED, admitted, armed_by, dequeued, enqueued,
-    left_class, migrating, picked, server_idled, server_started, server_stopped, updated_by,
+    left_class, migrating, picked, server_idled, server_started, server_stopped, updated_by_clocks,
+    updated_by_span,
 };
-use crate::values::{has_field, values_of};
-use trace_data::{Expiry, IdleCharge, Mark, Probe, Ran};
+use crate::values::{Values, has_field};
+use trace_data::{Expiry, IdleCharge, Mark, Probe};
 
 /// A function that changes sums by no rule of a task.
 #[derive(Clone, Copy)]
@@ -169,7 +170,8 @@ pub fn event_named(name: &[u8]) -> Option<ProbeEvent>
 fn show_enqueued(text: &[u8]) -> Option<Probe>
     ensures { result ≡ show_enqueued (words_of text.now) }
 {
-    let values = values_of(&ENQUEUED, text)?;
+    let mut values = Values::none();
+    values.take(&ENQUEUED, text)?;
     Some(Probe::Enqueued(enqueued(&values)))
 }
 
@@ -177,33 +179,26 @@ fn show_enqueued(text: &[u8]) -> Option<Probe>
 fn show_updated_by_span(text: &[u8]) -> Option<Probe>
     ensures { result ≡ show_updated_by_span (words_of text.now) }
 {
-    let values = values_of(&UPDATED_BY_SPAN, text)?;
-    let ran = Ran::Span {
-        delta: values.signed(Field::DeltaExec),
-        max_bw: values.unsigned(Field::MaxBw),
-    };
-    Some(Probe::Updated(updated_by(&values, ran)))
+    let mut values = Values::none();
+    values.take(&UPDATED_BY_SPAN, text)?;
+    Some(Probe::Updated(updated_by_span(&values)))
 }
 
 #[inline(never)]
 fn show_updated_by_clocks(text: &[u8]) -> Option<Probe>
     ensures { result ≡ show_updated_by_clocks (words_of text.now) }
 {
-    let values = values_of(&UPDATED_BY_CLOCKS, text)?;
-    let ran = Ran::Clocks {
-        now: values.unsigned(Field::ClockTask),
-        start: values.unsigned(Field::ExecStart),
-        entity: values.unsigned(Field::Entity),
-        max_bw: values.shown(Field::MaxBwShown),
-    };
-    Some(Probe::Updated(updated_by(&values, ran)))
+    let mut values = Values::none();
+    values.take(&UPDATED_BY_CLOCKS, text)?;
+    Some(Probe::Updated(updated_by_clocks(&values)))
 }
 
 #[inline(never)]
 fn show_dequeued(text: &[u8]) -> Option<Probe>
     ensures { result ≡ show_dequeued (words_of text.now) }
 {
-    let values = values_of(&DEQUEUED, text)?;
+    let mut values = Values::none();
+    values.take(&DEQUEUED, text)?;
     Some(Probe::Dequeued(dequeued(&values)))
 }
 
@@ -211,7 +206,8 @@ fn show_dequeued(text: &[u8]) -> Option<Probe>
 fn show_migrating(text: &[u8]) -> Option<Probe>
     ensures { result ≡ show_migrating (words_of text.now) }
 {
-    let values = values_of(&MIGRATING, text)?;
+    let mut values = Values::none();
+    values.take(&MIGRATING, text)?;
     Some(Probe::Migrating(migrating(&values)))
 }
 
@@ -219,7 +215,8 @@ fn show_migrating(text: &[u8]) -> Option<Probe>
 fn show_left_class(text: &[u8]) -> Option<Probe>
     ensures { result ≡ show_left_class (words_of text.now) }
 {
-    let values = values_of(&LEFT_CLASS, text)?;
+    let mut values = Values::none();
+    values.take(&LEFT_CLASS, text)?;
     Some(Probe::LeftClass(left_class(&values)))
 }
 
@@ -227,7 +224,8 @@ fn show_left_class(text: &[u8]) -> Option<Probe>
 fn show_admitted(text: &[u8]) -> Option<Probe>
     ensures { result ≡ show_admitted (words_of text.now) }
 {
-    let values = values_of(&ADMITTED, text)?;
+    let mut values = Values::none();
+    values.take(&ADMITTED, text)?;
     Some(Probe::Admitted(admitted(&values)))
 }
 
@@ -235,7 +233,8 @@ fn show_admitted(text: &[u8]) -> Option<Probe>
 fn show_admitted_delayed(text: &[u8]) -> Option<Probe>
     ensures { result ≡ show_admitted_delayed (words_of text.now) }
 {
-    let values = values_of(&ADMITTED_DELAYED, text)?;
+    let mut values = Values::none();
+    values.take(&ADMITTED_DELAYED, text)?;
     Some(Probe::Admitted(admitted(&values)))
 }
 
@@ -243,7 +242,8 @@ fn show_admitted_delayed(text: &[u8]) -> Option<Probe>
 fn show_zero_lag_fired(text: &[u8]) -> Option<Probe>
     ensures { result ≡ show_zero_lag_fired (words_of text.now) }
 {
-    let values = values_of(&ZERO_LAG_FIRED, text)?;
+    let mut values = Values::none();
+    values.take(&ZERO_LAG_FIRED, text)?;
     Some(Probe::ZeroLagFired {
         timer: values.unsigned(Field::Timer),
     })
@@ -253,7 +253,8 @@ fn show_zero_lag_fired(text: &[u8]) -> Option<Probe>
 fn show_replenish_fired(text: &[u8]) -> Option<Probe>
     ensures { result ≡ show_replenish_fired (words_of text.now) }
 {
-    let values = values_of(&REPLENISH_FIRED, text)?;
+    let mut values = Values::none();
+    values.take(&REPLENISH_FIRED, text)?;
     Some(Probe::ReplenishFired {
         timer: values.unsigned(Field::Timer),
         served_by: values.shown(Field::TimerServedBy),
@@ -264,7 +265,8 @@ fn show_replenish_fired(text: &[u8]) -> Option<Probe>
 fn show_armed_from_now(text: &[u8]) -> Option<Probe>
     ensures { result ≡ show_armed_from_now (words_of text.now) }
 {
-    let values = values_of(&ARMED_FROM_NOW, text)?;
+    let mut values = Values::none();
+    values.take(&ARMED_FROM_NOW, text)?;
     let expiry = Expiry::After(values.signed(Field::FromNow));
     Some(Probe::Armed(armed_by(&values, expiry)))
 }
@@ -273,7 +275,8 @@ fn show_armed_from_now(text: &[u8]) -> Option<Probe>
 fn show_armed_until(text: &[u8]) -> Option<Probe>
     ensures { result ≡ show_armed_until (words_of text.now) }
 {
-    let values = values_of(&ARMED_UNTIL, text)?;
+    let mut values = Values::none();
+    values.take(&ARMED_UNTIL, text)?;
     let expiry = Expiry::At(values.signed(Field::Expires));
     Some(Probe::Armed(armed_by(&values, expiry)))
 }
@@ -282,7 +285,8 @@ fn show_armed_until(text: &[u8]) -> Option<Probe>
 fn show_server_started(text: &[u8]) -> Option<Probe>
     ensures { result ≡ show_server_started (words_of text.now) }
 {
-    let values = values_of(&SERVER_STARTED, text)?;
+    let mut values = Values::none();
+    values.take(&SERVER_STARTED, text)?;
     Some(Probe::ServerStarted(server_started(&values)))
 }
 
@@ -290,7 +294,8 @@ fn show_server_started(text: &[u8]) -> Option<Probe>
 fn show_picked(text: &[u8]) -> Option<Probe>
     ensures { result ≡ show_picked (words_of text.now) }
 {
-    let values = values_of(&PICKED, text)?;
+    let mut values = Values::none();
+    values.take(&PICKED, text)?;
     Some(Probe::Picked(picked(&values)))
 }
 
@@ -328,7 +333,8 @@ fn show_armed(text: &[u8]) -> Option<Probe>
 fn show_server_stopped(text: &[u8]) -> Option<Probe>
     ensures { result ≡ show_server_stopped (words_of text.now) }
 {
-    let values = values_of(&SERVER_STOPPED, text)?;
+    let mut values = Values::none();
+    values.take(&SERVER_STOPPED, text)?;
     Some(Probe::ServerStopped(server_stopped(&values)))
 }
 
@@ -336,14 +342,16 @@ fn show_server_stopped(text: &[u8]) -> Option<Probe>
 fn show_idled(charge: IdleCharge, text: &[u8]) -> Option<Probe>
     ensures { result ≡ show_idled charge (words_of text.now) }
 {
-    let values = values_of(&SERVER_IDLED, text)?;
+    let mut values = Values::none();
+    values.take(&SERVER_IDLED, text)?;
     Some(Probe::ServerIdled(server_idled(&values, charge)))
 }
 
 fn show_attached(text: &[u8]) -> Option<Mark>
     ensures { result ≡ show_attached (words_of text.now) }
 {
-    let values = values_of(&DOMAIN_ATTACHED, text)?;
+    let mut values = Values::none();
+    values.take(&DOMAIN_ATTACHED, text)?;
     Some(Mark::DomainAttached {
         cpu: values.cpu(),
         domain: values.unsigned(Field::RootDomain),
@@ -354,14 +362,16 @@ fn show_attached(text: &[u8]) -> Option<Mark>
 fn of_cpu(text: &[u8]) -> Option<u32>
     ensures { result ≡ of_cpu (words_of text.now) }
 {
-    let values = values_of(&OF_CPU, text)?;
+    let mut values = Values::none();
+    values.take(&OF_CPU, text)?;
     Some(values.cpu())
 }
 
 fn show_limit(text: &[u8]) -> Option<Mark>
     ensures { result ≡ show_limit (words_of text.now) }
 {
-    let values = values_of(&LIMIT_HANDLED, text)?;
+    let mut values = Values::none();
+    values.take(&LIMIT_HANDLED, text)?;
     Some(Mark::LimitHandled {
         is_write: values.is_set(Field::Write),
     })
@@ -371,7 +381,8 @@ fn show_limit(text: &[u8]) -> Option<Mark>
 fn show_rebuilt_deadline(text: &[u8]) -> Option<Mark>
     ensures { result ≡ show_rebuilt_deadline (words_of text.now) }
 {
-    let values = values_of(&DEADLINE_TASK_REBUILT, text)?;
+    let mut values = Values::none();
+    values.take(&DEADLINE_TASK_REBUILT, text)?;
     Some(Mark::TaskRebuilt {
         pid: values.unsigned(Field::Pid),
         policy: 6,
@@ -381,7 +392,8 @@ fn show_rebuilt_deadline(text: &[u8]) -> Option<Mark>
 fn show_rebuilt_any(text: &[u8]) -> Option<Mark>
     ensures { result ≡ show_rebuilt_any (words_of text.now) }
 {
-    let values = values_of(&TASK_REBUILT, text)?;
+    let mut values = Values::none();
+    values.take(&TASK_REBUILT, text)?;
     Some(Mark::TaskRebuilt {
         pid: values.unsigned(Field::Pid),
         policy: values.unsigned(Field::PolicyWanted),
@@ -401,7 +413,8 @@ fn show_rebuilt(text: &[u8]) -> Option<Mark>
 fn show_affinity(text: &[u8]) -> Option<Mark>
     ensures { result ≡ show_affinity (words_of text.now) }
 {
-    let values = values_of(&AFFINITY_SET, text)?;
+    let mut values = Values::none();
+    values.take(&AFFINITY_SET, text)?;
     Some(Mark::AffinitySet {
         pid: values.unsigned(Field::Pid),
         cpu: values.cpu(),
@@ -411,7 +424,8 @@ fn show_affinity(text: &[u8]) -> Option<Mark>
 fn show_server_changed(text: &[u8]) -> Option<Mark>
     ensures { result ≡ show_server_changed (words_of text.now) }
 {
-    let values = values_of(&SERVER_CHANGED, text)?;
+    let mut values = Values::none();
+    values.take(&SERVER_CHANGED, text)?;
     Some(Mark::ServerChanged {
         cpu: values.cpu(),
         dl_runtime: values.unsigned(Field::DlRuntime),

@@ -1,7 +1,9 @@
 //! Which fields each probe has, in their order, and what they show.
 
 ghost use Rattle.std.specs.Prelude.{◌≡◌};
-ghost use Rattle.trace_probes.specs.Tables.{admitted, armed_by, budget, dequeued, donor, enqueued, left_class, migrating, parameters, picked, server_idled, server_started, server_stopped, speed, sums, updated_by};
+ghost use Rattle.trace_data.specs.declared.probe.Ran.TheVariants.{Clocks, Span};
+ghost use Rattle.trace_probes.specs.declared.field.Field.TheVariants.{ClockTask, DeltaExec, Entity, ExecStart, MaxBw, MaxBwShown};
+ghost use Rattle.trace_probes.specs.Tables.{admitted, armed_by, budget, dequeued, donor, enqueued, left_class, migrating, parameters, picked, server_idled, server_started, server_stopped, shown_at, signed_at, speed, sums, unsigned_at, updated_by};
 
 use crate::field::Field;
 use crate::values::Values;
@@ -308,7 +310,7 @@ pub(crate) fn enqueued(values: &Values) -> Enqueued
     }
 }
 
-pub(crate) fn updated_by(values: &Values, ran: Ran) -> Updated
+fn updated_by(values: &Values, ran: Ran) -> Updated
     ensures { result ≡ updated_by values.now.items ran }
 {
     Updated {
@@ -322,6 +324,33 @@ pub(crate) fn updated_by(values: &Values, ran: Ran) -> Updated
         bw_ratio: values.unsigned(Field::BwRatio),
         speed: speed(values),
     }
+}
+
+/// A charge of a kernel that shows the span of a run.
+pub(crate) fn updated_by_span(values: &Values) -> Updated
+    ensures { result ≡ updated_by values.now.items
+        (Span (signed_at DeltaExec values.now.items) (unsigned_at MaxBw values.now.items)) }
+{
+    let ran = Ran::Span {
+        delta: values.signed(Field::DeltaExec),
+        max_bw: values.unsigned(Field::MaxBw),
+    };
+    updated_by(values, ran)
+}
+
+/// A charge of a kernel that shows the clock and the start of a run.
+pub(crate) fn updated_by_clocks(values: &Values) -> Updated
+    ensures { result ≡ updated_by values.now.items (Clocks (unsigned_at ClockTask values.now.items)
+        (unsigned_at ExecStart values.now.items) (unsigned_at Entity values.now.items)
+        (shown_at MaxBwShown values.now.items)) }
+{
+    let ran = Ran::Clocks {
+        now: values.unsigned(Field::ClockTask),
+        start: values.unsigned(Field::ExecStart),
+        entity: values.unsigned(Field::Entity),
+        max_bw: values.shown(Field::MaxBwShown),
+    };
+    updated_by(values, ran)
 }
 
 pub(crate) fn dequeued(values: &Values) -> Dequeued

@@ -8,10 +8,11 @@ ghost use Rattle.text_bytes.specs.Lines.{word_of};
 
 use crate::field::{FIELDS, Field, FieldKind, key_of, kind_of, place_of};
 use crate::front::unsigned_front;
-use crate::numerals::{begins, positive};
+use crate::numerals::positive;
 use crate::value::{FieldValue, flag_of, value_of};
 use text_bytes::first_word;
 use trace_data::TimerFunction;
+use trace_fields::has_key;
 
 /// The values of fields, each at its place.
 #[derive(Clone, Copy)]
@@ -62,7 +63,7 @@ fn next_value<'a>(field: Field, words: Option<&'a [u8]>) -> Option<(FieldValue, 
     let key = key_of(field);
     let mut left = words;
     while let Some(text) = left {
-        if begins(key, text) {
+        if has_key(key, text) {
             return front_value(kind_of(field), &text[key.len()..]);
         }
         left = first_word(text).1;
@@ -71,17 +72,17 @@ fn next_value<'a>(field: Field, words: Option<&'a [u8]>) -> Option<(FieldValue, 
 }
 
 /// Whether a word has the key of a field.
+#[tactic(auto, using(crate::proofs::WordLemmas::has_later))]
 pub(crate) fn has_field(field: Field, words: Option<&[u8]>) -> bool
     ensures { result ≡ has_field field (words_left words.entry) }
 {
     let key = key_of(field);
     let mut left = words;
     while let Some(text) = left {
-        let (word, rest) = first_word(text);
-        if begins(key, word) {
+        if has_key(key, text) {
             return true;
         }
-        left = rest;
+        left = first_word(text).1;
     }
     false
 }
@@ -104,22 +105,28 @@ fn value_next<'a>(field: Field, words: Option<&'a [u8]>) -> Option<(FieldValue, 
     }
 }
 
-/// The values of these fields, one behind the other, in a text.
-pub(crate) fn values_of(fields: &[Field], text: &[u8]) -> Option<Values>
-    ensures { option_map (λ (v : Values). v.items) result
-        ≡ values_with fields.now no_values (words_left (Some text.entry)) }
-{
-    let mut values = Values { items: NO_VALUES };
-    let mut left = Some(text);
-    for field in fields {
-        let (value, rest) = value_next(*field, left)?;
-        values.items[place_of(*field)] = value;
-        left = rest;
-    }
-    Some(values)
-}
-
 impl Values {
+    /// No value yet.
+    pub(crate) fn none() -> Values
+        ensures { result.items ≡ no_values }
+    {
+        Values { items: NO_VALUES }
+    }
+
+    /// Takes the values of these fields, one behind the other, in a text; none where one is missing or wrong.
+    pub(crate) fn take(&mut self, fields: &[Field], text: &[u8]) -> Option<()>
+        ensures { option_map (λ _. self.new.items) result
+            ≡ values_with fields.now self.old.items (words_left (Some text.entry)) }
+    {
+        let mut left = Some(text);
+        for field in fields {
+            let (value, rest) = value_next(*field, left)?;
+            self.items[place_of(*field)] = value;
+            left = rest;
+        }
+        Some(())
+    }
+
     pub(crate) fn unsigned(&self, field: Field) -> u64
         ensures { result ≡ unsigned_at field self.now.items }
     {

@@ -4,9 +4,6 @@ use Rattle.std.specs.Borrow.{Bor}
 use Rattle.text_bytes.specs.Lines.{is_space, words_of}
 use Rattle.trace_probes.specs.declared.value.FieldValue.{FieldValue}
 
-abbrev pub text_of : Bor (List ℕ) → List ℕ
-text_of text = text.now
-
 -- the words that are left
 abbrev pub words_left : Option (Bor (List ℕ)) → List (List ℕ)
 words_left None = []
