@@ -4,8 +4,8 @@ use crate::record::{cpus_of, kernel_of, lost_of, release_of, tasks_of};
 use crate::report::CheckReport;
 use crate::words::{lines_of, text_of, word};
 use probe_findings::{
-    Broken, Comparison, Comparisons, Deviation, ExactValue, KindCounts, Law, Subject, Whose, Why,
-    kind_of,
+    Broken, Comparison, Comparisons, Deviation, ExactValue, KindCounts, Law, ProbedFunction,
+    Subject, Whose, Why, kind_of,
 };
 use probe_marks::MarkCount;
 use probe_verdict::{
@@ -184,15 +184,33 @@ fn value_of(alloc: Global, value: ExactValue) -> Result<Value, AllocError> {
     }
 }
 
+/// What changed a value last: a rule, or that root domains were rebuilt; none where it was only seen.
+fn change_of(since: Why) -> Option<&'static str> {
+    match (since.rule, since.event) {
+        (Some(rule), _) => Some(rule_name(rule)),
+        (None, ProbedFunction::RebuildTask) => Some("rebuilt"),
+        (None, _) => None,
+    }
+}
+
 /// The line and the rule that changed the value last; null where it was only seen.
 fn since_of(alloc: Global, since: Why) -> Result<Value, AllocError> {
-    match since.rule {
+    match change_of(since) {
         Some(rule) => json!(in alloc; {
             "line": since.line,
             "event": event_name(since.event),
-            "rule": rule_name(rule)
+            "rule": rule
         }),
         None => Ok(Value::Null),
+    }
+}
+
+/// The kernel's function that changed a value last.
+fn function_since(since: Why, kernel: Option<Kernel>) -> Option<&'static str> {
+    match (since.rule, since.event) {
+        (Some(rule), _) => Some(rule_function(rule, kernel)),
+        (None, ProbedFunction::RebuildTask) => Some(function_of(since.event, kernel)),
+        (None, _) => None,
     }
 }
 
@@ -205,20 +223,11 @@ fn functions_of(
 ) -> Result<Value, AllocError> {
     let mut names = Vec::new(alloc);
     let of_line = function_of(comparison.place.event, kernel);
-    if let Some(
-        Deviation {
-            since: Why {
-                rule: Some(rule),
-                ..
-            },
-            ..
-        },
-    ) = first
+    if let Some(deviation) = first
+        && let Some(of_rule) = function_since(deviation.since, kernel)
+        && of_rule != of_line
     {
-        let of_rule = rule_function(rule, kernel);
-        if of_rule != of_line {
-            names.push(word(alloc, of_rule)?)?;
-        }
+        names.push(word(alloc, of_rule)?)?;
     }
     names.push(word(alloc, of_line)?)?;
     Ok(Value::Array(names))
