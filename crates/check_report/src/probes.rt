@@ -4,8 +4,8 @@ use crate::record::{cpus_of, kernel_of, lost_of, release_of, tasks_of};
 use crate::report::CheckReport;
 use crate::words::{lines_of, text_of, word};
 use probe_findings::{
-    Broken, Comparison, Comparisons, Deviation, ExactValue, KindCounts, Law, ProbedFunction,
-    Subject, Whose, Why, kind_of,
+    Broken, Comparison, Comparisons, Deviation, ExactRule, ExactValue, KindCounts, Law,
+    ProbedFunction, RuleCounts, Subject, Whose, Why, kind_of,
 };
 use probe_marks::MarkCount;
 use probe_verdict::{
@@ -21,6 +21,7 @@ use trace_data::{Kernel, TimerFunction};
 pub struct ProbeAnswers<'a> {
     pub heading: ProbeHeading<'a>,
     pub counts: &'a KindCounts,
+    pub rules: &'a RuleCounts,
     pub first: Option<Deviation>,
     pub broken: Option<Broken>,
     pub marks: &'a [MarkCount],
@@ -78,6 +79,8 @@ fn rules_of(alloc: Global, found: ProbeAnswers<'_>) -> Result<Value, AllocError>
         "by": "probes",
         "equal": total.equal,
         "differ": total.differ,
+        "speed_unknown": found.rules.of(ExactRule::SpeedUnknown),
+        "extra_bw_unknown": found.rules.of(ExactRule::ExtraUnknown),
         "kinds": kinds,
         "first": first,
         "broken": broken

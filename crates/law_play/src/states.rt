@@ -2,12 +2,13 @@
 
 ghost use Rattle.std.specs.Prelude.{◌≡◌, slice_get};
 ghost use Rattle.law_play.specs.inside.Cpus.{is_charged_leaving};
-ghost use Rattle.law_play.specs.inside.Tasks.{is_charged, is_reserved_task};
+ghost use Rattle.law_play.specs.inside.Tasks.{is_charged, is_reserved_task, wait_sign};
 
 use crate::cpu::Last;
 use crate::play::LawPlay;
 use crate::task::{Charge, Reservation, SUGOV, Task, Throttling};
-use law_findings::{LineKind, Queued, ReadLine};
+use law_findings::{LineKind, Queued, ReadLine, Sign};
+use law_switches::Ready;
 use std::alloc::AllocError;
 use trace_data::{Budget, Dequeued, Enqueued, LeftClass, Ran, Updated};
 
@@ -46,7 +47,10 @@ impl LawPlay {
             self.picks.queue(place, line.cpu)?;
         }
         let count = self.cpus.of(read.cpu).count;
+        let mut sign = None;
         if let Some(task) = self.tasks.get_mut(place) {
+            sign = wait_sign(line, task.sign);
+            task.sign = sign;
             task.reservation = Some(reservation);
             task.is_queued = !is_back;
             task.is_away = is_back;
@@ -75,7 +79,13 @@ impl LawPlay {
             Some(line.budget.is_throttled),
         )?;
         if !is_back && !is_leaving {
-            self.ready.add(place, line.pid, line.cpu, read.at)?;
+            self.ready.add(Ready {
+                task: place,
+                pid: line.pid,
+                cpu: line.cpu,
+                since: read.at,
+                sign,
+            })?;
         }
         self.throttled_enqueue(place, read, line, is_back)?;
         self.budget_at_wake(place, read, line.budget, line.flags)?;
@@ -128,10 +138,19 @@ impl LawPlay {
     ) -> Result<(), AllocError> {
         let is_throttled = Some(line.budget.is_throttled);
         self.shown_ready(place, line.pid, read, LineKind::Update, is_throttled)?;
+        if let Some(task) = self.tasks.get_mut(place) {
+            task.sign = None;
+        }
         if is_leaving {
             return Ok(());
         }
-        self.ready.add(place, line.pid, line.cpu, read.at)
+        self.ready.add(Ready {
+            task: place,
+            pid: line.pid,
+            cpu: line.cpu,
+            since: read.at,
+            sign: None,
+        })
     }
 
     /// A task in the tree is charged.
@@ -275,6 +294,21 @@ fn is_charged(task: &Task, line: &Updated, is_leaving: bool) -> bool
         Ran::Span { .. } => false,
     };
     (task.is_queued || is_leaving) && !line.budget.is_throttled && !is_off
+}
+
+/// What the wait that begins at an enqueue has in common with a known fault: a boost replenishes a throttled task. Where the task is
+/// only saved and restored, that of its wait before.
+fn wait_sign(line: &Enqueued, before: Option<Sign>) -> Option<Sign>
+    ensures { result ≡ wait_sign line.now before }
+{
+    let is_boosted = line.entity != line.served_by;
+    if is_boosted && line.budget.is_throttled && line.flags & REPLENISH != 0 {
+        Some(Sign::BoostNotPicked)
+    } else if line.flags & RESTORE != 0 {
+        before
+    } else {
+        None
+    }
 }
 
 fn queued_of(budget: Budget) -> Queued

@@ -8,7 +8,7 @@ ghost use Rattle.law_play.specs.inside.Tasks.{is_boosted_by, is_governors, new_t
 
 use crate::budget::{Before, MostRuntime};
 use crate::zero_lag::OpenBlock;
-use law_findings::{FiredTimer, LawLine};
+use law_findings::{FiredTimer, LawLine, Sign};
 use std::alloc::{AllocError, Global};
 use std::collections::HashMap;
 use trace_data::{Donor, Enqueued, Parameters};
@@ -119,6 +119,9 @@ pub(crate) struct Task {
     pub charge: Option<Charge>,
     pub throttling: Option<Throttling>,
 
+    /// What its wait for a CPU has in common with a known fault.
+    pub sign: Option<Sign>,
+
     /// Its line before.
     pub before: Option<Before>,
     pub most_runtime: Option<MostRuntime>,
@@ -143,6 +146,7 @@ impl Task {
             arming: None,
             charge: None,
             throttling: None,
+            sign: None,
             before: None,
             most_runtime: None,
             block: None,

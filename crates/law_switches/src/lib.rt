@@ -4,5 +4,5 @@
 mod lower;
 mod pick;
 
-pub use lower::{LowerTask, ReadyTasks};
+pub use lower::{LowerTask, Ready, ReadyTasks};
 pub use pick::Picks;

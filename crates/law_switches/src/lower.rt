@@ -5,7 +5,7 @@ ghost use Rattle.law_findings.specs.Pick.{IsRunShort};
 ghost use Rattle.law_switches.specs.inside.Waits.{IsRestarted, has_servers, lower_run, lower_runs};
 
 use law_findings::{
-    Breach, Finding, JudgedLaws, Law, LawLine, LowerRun, Whose, is_run_short, is_tick_counted,
+    Breach, Finding, JudgedLaws, Law, LawLine, LowerRun, Sign, Whose, is_run_short, is_tick_counted,
 };
 use std::alloc::{AllocError, Global};
 use trace_data::Kernel;
@@ -17,11 +17,24 @@ pub struct LowerTask {
     pub at: u64,
 }
 
+/// A task of the class that can run from a line on: its place and pid, the CPU, and the moment of the line.
+#[derive(Clone, Copy)]
+pub struct Ready {
+    pub task: usize,
+    pub pid: u64,
+    pub cpu: u32,
+    pub since: u64,
+
+    /// What its wait has in common with a known fault.
+    pub sign: Option<Sign>,
+}
+
 /// A task that can run from its last line on, if its next line shows it in the class and not throttled.
 #[derive(Drop)]
 struct ReadyTask {
     task: usize,
     pid: u64,
+    sign: Option<Sign>,
 
     /// When it began to wait, and since when it certainly can run.
     from: u64,
@@ -93,7 +106,7 @@ impl ReadyTask {
             → self.new.held ≡ min (self.old.held + 1) (2 ^ 64 - 1) }
         ensures long { (IsRunShort (lower_run self.old lower place.at) → ⊥) → OnOk result
             (self.new.long.items ≡ self.old.long.items
-            ++ lower_runs self.old.pid lower place (lower_run self.old lower place.at) ∷ []) }
+            ++ lower_runs self.old lower place (lower_run self.old lower place.at) ∷ []) }
         ensures unheld { (IsRunShort (lower_run self.old lower place.at) → ⊥)
             → self.new.held ≡ self.old.held }
     {
@@ -111,7 +124,7 @@ impl ReadyTask {
                 nanos: run.nanos,
                 ticks: run.ticks,
             },
-            sign: None,
+            sign: self.sign,
         })?;
         Ok(())
     }
@@ -190,25 +203,26 @@ impl ReadyTasks {
         }
     }
 
-    /// A task can run on this CPU from here on.
-    pub fn add(&mut self, task: usize, pid: u64, cpu: u32, since: u64) -> Result<(), AllocError> {
-        for _ in self.places.len()..task.saturating_add(1) {
+    /// A task can run from here on.
+    pub fn add(&mut self, ready: Ready) -> Result<(), AllocError> {
+        for _ in self.places.len()..ready.task.saturating_add(1) {
             self.places.push(None)?;
         }
         let alloc = self.alloc;
-        if let Some(tasks) = self.see(cpu)? {
+        if let Some(tasks) = self.see(ready.cpu)? {
             tasks.ready.push(ReadyTask {
-                task,
-                pid,
-                from: since,
-                since,
+                task: ready.task,
+                pid: ready.pid,
+                sign: ready.sign,
+                from: ready.since,
+                since: ready.since,
                 ticks: 0,
                 held: 0,
                 long: Vec::new(alloc),
             })?;
         }
-        if let Some(place) = self.places.get_mut(task) {
-            *place = Some(cpu);
+        if let Some(place) = self.places.get_mut(ready.task) {
+            *place = Some(ready.cpu);
         }
         Ok(())
     }

@@ -1,7 +1,7 @@
 //! Tasks of the class that wait: for a lower class to be put off.
 
 use law_findings::{JudgedLaws, LineKind, ReadLine};
-use law_switches::{LowerTask, ReadyTasks};
+use law_switches::{LowerTask, Ready, ReadyTasks};
 use std::alloc::{AllocError, Global};
 use std::collections::HashMap;
 use trace_data::{Kernel, Stop};
@@ -71,6 +71,17 @@ impl Waits {
         Ok(())
     }
 
+    /// A task can run on this CPU from this moment on.
+    fn add(&mut self, task: usize, pid: u64, cpu: u32, since: u64) -> Result<(), AllocError> {
+        self.ready.add(Ready {
+            task,
+            pid,
+            cpu,
+            since,
+            sign: None,
+        })
+    }
+
     /// A task of the class wakes on this CPU.
     pub fn wake(&mut self, read: ReadLine, pid: u64, cpu: u32) -> Result<(), AllocError> {
         let place = self.place(pid)?;
@@ -78,7 +89,7 @@ impl Waits {
         if self.ready.cpu_of(place).is_some() || self.runs(cpu) == Some(pid) {
             return Ok(());
         }
-        self.ready.add(place, pid, cpu, read.at)
+        self.add(place, pid, cpu, read.at)
     }
 
     /// A task of a lower class may run with the priority of one that waits for its lock: of a task that blocked on another CPU since
@@ -107,7 +118,7 @@ impl Waits {
             return Ok(());
         }
         self.ready.show(judged, place, None)?;
-        self.ready.add(place, pid, cpu, read.at)
+        self.add(place, pid, cpu, read.at)
     }
 
     /// A CPU switches from one task to another.
@@ -157,7 +168,7 @@ impl Waits {
         let place = self.place(switch.pid)?;
         self.ready.show(judged, place, None)?;
         match switch.stop {
-            Stop::Ready => self.ready.add(place, switch.pid, read.cpu, read.at),
+            Stop::Ready => self.add(place, switch.pid, read.cpu, read.at),
             Stop::Blocks => {
                 if let Some(block) = self.blocks.get_mut(place) {
                     *block = Some(Block {

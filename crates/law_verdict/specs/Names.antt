@@ -5,7 +5,7 @@ use Rattle.std.specs.Str.{bytes_eq}
 use Rattle.law_findings.specs.Asked.{asked_with, none_asked}
 use Rattle.law_findings.specs.declared.asked.AskedLaws.{AskedLaws}
 use Rattle.law_findings.specs.declared.known.Sign.{Sign}
-use Rattle.law_findings.specs.declared.known.Sign.TheVariants.{LeftThrottled, BoostEnded, ProductWraps, LeftAsleep, ServersTakenTwice, SharesTakenAgain, LowAtStart}
+use Rattle.law_findings.specs.declared.known.Sign.TheVariants.{LeftThrottled, BoostEnded, ProductWraps, LeftAsleep, ServersTakenTwice, SharesTakenAgain, LowAtStart, BoostNotPicked}
 use Rattle.law_findings.specs.declared.words.TheConstants.{LAWS}
 use Rattle.law_findings.specs.declared.words.Law.{Law}
 use Rattle.law_findings.specs.declared.words.Law.TheVariants.{Progress, Expiry, Firing, ZeroLag, Budget, Total, Pick, Run, Server}
@@ -66,3 +66,4 @@ fault_word LeftAsleep = codes "a task that is put out of the class while it slee
 fault_word ServersTakenTwice = codes "shares are taken again (KERNEL, \"Hotplug and partitions\")"
 fault_word SharesTakenAgain = codes "shares are taken again (KERNEL, \"Hotplug and partitions\")"
 fault_word LowAtStart = codes "extra_bw was too low before the record (KERNEL, \"Hotplug and partitions\")"
+fault_word BoostNotPicked = codes "a throttled task that a boost replenishes (KERNEL, \"A boost that nothing runs\")"

@@ -125,5 +125,8 @@ pub fn fault_name(sign: Sign) -> &'static str
         Sign::LowAtStart => {
             "extra_bw was too low before the record (KERNEL, \"Hotplug and partitions\")"
         }
+        Sign::BoostNotPicked => {
+            "a throttled task that a boost replenishes (KERNEL, \"A boost that nothing runs\")"
+        }
     }
 }

@@ -228,10 +228,11 @@ pub enum ExactRule {
     ExtraReadLater,
     ChargeReadLater,
     SpeedUnknown,
+    ExtraUnknown,
 }
 
 /// How many rules there are.
-pub const RULES: usize = 38;
+pub const RULES: usize = 39;
 
 /// What changed a value last.
 #[derive(Clone, Copy)]

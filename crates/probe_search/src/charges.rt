@@ -1,33 +1,13 @@
 //! What a line leaves open: the `extra_bw` of a charge, its speed, the clock of a late replenishment.
 
-use crate::shown::shown_runtime;
+use crate::reclaiming::{ReclaimingCharge, has_effect_on, is_open_at, later_extra};
 use crate::speeds::{UnknownSpeed, cost_told};
-use kernel_changes::cost_by;
-use kernel_entity::{ChargedRunqueue, RECLAIM, charged, has};
+use kernel_entity::{Entity, RECLAIM, has};
 use probe_explain::ProbeLine;
-use probe_run::{Actor, Effect, PlayRules, Run, UnlockedSum, is_special};
-use probe_tasks::{AS_SHOWN, LineChoice, law_shown};
+use probe_run::{PlayRules, Run, is_special};
+use probe_tasks::{AS_SHOWN, LineChoice};
 use std::collections::VecDeque;
-use trace_data::{Enqueued, Probe, Ran, Sums, Updated};
-
-/// `max_bw` where a kernel has none.
-const NO_MAX_BW: u64 = 0;
-
-/// What a charge reads of its runqueue, with another `extra_bw` or the line's.
-fn runqueue_of(line: &Updated, extra_bw: u64) -> ChargedRunqueue {
-    let max_bw = match line.ran {
-        Ran::Span { max_bw, .. } => max_bw,
-        Ran::Clocks { max_bw, .. } => max_bw.unwrap_or(NO_MAX_BW),
-    };
-    ChargedRunqueue {
-        sums: Sums {
-            extra_bw,
-            ..line.sums
-        },
-        max_bw,
-        bw_ratio: line.bw_ratio,
-    }
-}
+use trace_data::{Enqueued, Probe, Ran, Updated};
 
 /// How long the task has run since it was last charged, in nanoseconds; none where it has not.
 fn span_of(line: &Updated) -> Option<u64> {
@@ -40,72 +20,6 @@ fn span_of(line: &Updated) -> Option<u64> {
     } else {
         None
     }
-}
-
-/// The budget that a charge leaves, by this `extra_bw`.
-fn left(rules: PlayRules, actor: &Actor, line: &Updated, extra_bw: u64, nanos: u64) -> i64 {
-    let mut entity = actor.entity;
-    entity.budget = line.budget;
-    let cost = cost_by(
-        rules.change,
-        law_shown(rules.law, line.ran),
-        entity,
-        runqueue_of(line, extra_bw),
-        nanos,
-    );
-    charged(entity, cost).budget.runtime
-}
-
-/// The budget that the task's next line shows.
-fn next_runtime(ahead: &VecDeque<ProbeLine>, pid: u64) -> Option<i64> {
-    for line in ahead.iter() {
-        let shown = shown_runtime(&line.probe, pid);
-        if shown.is_some() {
-            return shown;
-        }
-    }
-    None
-}
-
-/// Whether an effect on the `extra_bw` of a CPU is pending.
-fn has_effect_on(run: &Run, cpu: u32) -> bool {
-    run.pending().iter().any(|one| match one.effect {
-        Effect::Adds {
-            sum: UnlockedSum::ExtraBw(of),
-            ..
-        } => of == cpu,
-        _ => false,
-    })
-}
-
-/// The `extra_bw` with one more of the pending effects that leaves the budget which the task's next line shows.
-fn later_extra(
-    rules: PlayRules,
-    run: &Run,
-    actor: &Actor,
-    line: &Updated,
-    nanos: u64,
-    ahead: &VecDeque<ProbeLine>,
-) -> Option<u64> {
-    let shown = next_runtime(ahead, line.pid)?;
-    let extra_bw = line.sums.extra_bw;
-    if left(rules, actor, line, extra_bw, nanos) == shown {
-        return None;
-    }
-    for pending in run.pending() {
-        if let Effect::Adds {
-            sum: UnlockedSum::ExtraBw(cpu),
-            amount,
-        } = pending.effect
-            && cpu == line.cpu
-        {
-            let later = extra_bw.wrapping_add(amount);
-            if left(rules, actor, line, later, nanos) == shown {
-                return Some(later);
-            }
-        }
-    }
-    None
 }
 
 fn updated_choice(
@@ -128,11 +42,23 @@ fn updated_choice(
     }
     let flags = actor.entity.parameters.flags;
     if has(flags, RECLAIM) {
-        if next.place.at <= run.open_until() || !has_effect_on(run, line.cpu) {
+        let is_open = is_open_at(run, next, ahead);
+        if !is_open && !has_effect_on(run, line.cpu) {
             return AS_SHOWN;
         }
+        let charge = ReclaimingCharge {
+            rules,
+            number,
+            entity: Entity {
+                budget: line.budget,
+                ..actor.entity
+            },
+            line: *line,
+            nanos,
+            is_open,
+        };
         return LineChoice {
-            extra_bw: later_extra(rules, run, &actor, line, nanos, ahead),
+            extra_bw: later_extra(run, &charge, ahead),
             ..AS_SHOWN
         };
     }

@@ -9,6 +9,7 @@ mod effects;
 mod handlers;
 mod locks;
 mod readings;
+mod reclaiming;
 mod shown;
 mod speeds;
 mod strategy;

@@ -1,7 +1,9 @@
 //! What lines show.
 
 use kernel_entity::{WAKEUP, has};
+use probe_explain::ProbeLine;
 use probe_run::Run;
+use std::collections::VecDeque;
 use trace_data::{Picked, Probe, Sums};
 
 /// The sums of a runqueue that a line shows, and of which CPU.
@@ -69,7 +71,7 @@ pub(crate) fn shown_sums(run: &Run, probe: &Probe) -> Option<ShownSums> {
 }
 
 /// The budget that a line shows of the task of this pid.
-pub(crate) fn shown_runtime(probe: &Probe, pid: u64) -> Option<i64> {
+fn shown_runtime(probe: &Probe, pid: u64) -> Option<i64> {
     match probe {
         Probe::Enqueued(line) => budget_of(line.pid, line.budget.runtime, pid),
         Probe::Updated(line) => {
@@ -86,6 +88,34 @@ pub(crate) fn shown_runtime(probe: &Probe, pid: u64) -> Option<i64> {
 
 fn budget_of(of: u64, runtime: i64, pid: u64) -> Option<i64> {
     if of == pid { Some(runtime) } else { None }
+}
+
+/// The budget that the next line of a task shows.
+#[derive(Clone, Copy)]
+pub(crate) struct NextBudget {
+    pub runtime: i64,
+
+    /// The task's replenishment timer fired before that line.
+    pub has_fired: bool,
+}
+
+/// What the next line of the task of this number and pid shows; none where no line shows its budget any more.
+pub(crate) fn next_budget(
+    run: &Run,
+    number: usize,
+    pid: u64,
+    ahead: &VecDeque<ProbeLine>,
+) -> Option<NextBudget> {
+    let mut has_fired = false;
+    for line in ahead.iter() {
+        if let Probe::ReplenishFired { timer, .. } = &line.probe {
+            has_fired = has_fired || run.timer_owner(*timer) == Some(number);
+        }
+        if let Some(runtime) = shown_runtime(&line.probe, pid) {
+            return Some(NextBudget { runtime, has_fired });
+        }
+    }
+    None
 }
 
 /// The entity whose own functions a line shows, and whether it is non-contending there.

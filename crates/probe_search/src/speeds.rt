@@ -1,6 +1,6 @@
 //! Charges without SCHED_FLAG_RECLAIM in lines that do not show how fast the CPU ran.
 
-use crate::shown::shown_runtime;
+use crate::shown::next_budget;
 use probe_explain::ProbeLine;
 use probe_findings::ExactRule;
 use probe_run::Run;
@@ -54,29 +54,6 @@ fn is_cost(nanos: u64, capacity: u64, cost: u64) -> bool {
     false
 }
 
-/// What the task's next line says of a charge.
-#[derive(Clone, Copy)]
-enum NextLine {
-    /// It shows this budget, and whether the task's replenishment timer fired before.
-    Shows { runtime: i64, has_fired: bool },
-
-    /// No line shows its budget any more.
-    None,
-}
-
-fn next_line(run: &Run, number: usize, pid: u64, ahead: &VecDeque<ProbeLine>) -> NextLine {
-    let mut has_fired = false;
-    for line in ahead.iter() {
-        if let Probe::ReplenishFired { timer, .. } = &line.probe {
-            has_fired = has_fired || run.timer_owner(*timer) == Some(number);
-        }
-        if let Some(runtime) = shown_runtime(&line.probe, pid) {
-            return NextLine::Shows { runtime, has_fired };
-        }
-    }
-    NextLine::None
-}
-
 /// Whether the next line of a CPU arms a replenishment timer: the charge before it throttled the task.
 fn arms_replenishment(by: u32, ahead: &VecDeque<ProbeLine>) -> bool {
     match ahead.iter().find(|line| line.place.cpu == by) {
@@ -118,18 +95,15 @@ pub(crate) fn cost_told(
     let capacity = capacity_of(run, line);
     let full = scaled(charge.nanos, capacity);
     let before = line.budget.runtime;
-    let (after, has_fired) = match next_line(run, charge.number, line.pid, ahead) {
-        NextLine::Shows { runtime, has_fired } => (runtime, has_fired),
-        NextLine::None => {
-            if has_run_slowly(run) && !arms_replenishment(charge.by, ahead) {
-                return last_cost(before, full);
-            }
-            return None;
+    let Some(after) = next_budget(run, charge.number, line.pid, ahead) else {
+        if has_run_slowly(run) && !arms_replenishment(charge.by, ahead) {
+            return last_cost(before, full);
         }
+        return None;
     };
-    let most = if has_fired { REPLENISHMENTS } else { 0 };
+    let most = if after.has_fired { REPLENISHMENTS } else { 0 };
     for times in 0..=most {
-        if let Some(cost) = cost_between(before, after, times, charge.dl_runtime) {
+        if let Some(cost) = cost_between(before, after.runtime, times, charge.dl_runtime) {
             if cost == full {
                 return None;
             }

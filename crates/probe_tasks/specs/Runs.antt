@@ -1,5 +1,5 @@
 -- The line of update_curr_dl_se.
-use Rattle.std.specs.Prelude.{ℕ, ◌/◌, ◌^◌, ℤ, pos, int_lt, nat_le, nat_lt, Bool, true, false, not, ◌&&◌, ◌||◌, ◌==◌, if◌then◌else◌, Option, Some, None, unwrap_or, is_none}
+use Rattle.std.specs.Prelude.{ℕ, ◌/◌, ◌^◌, ℤ, pos, int_lt, nat_lt, Bool, true, false, not, ◌&&◌, ◌||◌, ◌==◌, if◌then◌else◌, Option, Some, None, unwrap_or, is_none}
 use Rattle.std.specs.Int.{w64, cast_unsigned}
 use Rattle.trace_data.specs.declared.probe.Updated.{Updated}
 use Rattle.trace_data.specs.declared.probe.Ran.{Ran}
@@ -87,14 +87,10 @@ cost_may_be t s e u c =
 abbrev pub charged_by : PlayRules → State → Entity → Updated → LineChoice → Entity
 charged_by t s e u c = if has_run u then charged_of e (unwrap_or c.cost (full_cost t s e u c.extra_bw)) else e
 
--- a later extra_bw is one more claim, behind the line's
+-- a later extra_bw is one more claim, behind the line's; where extra_bw is open it is any
 abbrev pub claim_later : State → ProbedLine → ℕ → Option ℕ → State
 claim_later s place cpu None = s
 claim_later s place cpu (Some value) = claim_in s place (ExtraBw cpu) value
-
-abbrev pub later_may_be : State → Option ℕ → Bool
-later_may_be s None = true
-later_may_be s (Some value) = not (nat_le s.now s.open_until)
 
 -- it is known, and stands in the tree
 abbrev pub is_charged : Actor → Bool
@@ -111,7 +107,7 @@ abbrev pub spent_may : PlayRules → State → Actor → Updated → LineChoice 
 spent_may t s a u c =
     let b = yielded_by a u.budget.is_yielded in
     sums_agree s u.cpu u.sums && (budget_agrees b u.budget.runtime u.budget.deadline && flags_agree b u.budget)
-    && (capacity_may s u && (later_may_be s c.extra_bw && cost_may_be t s (shown_charge a u).entity u c))
+    && (capacity_may s u && cost_may_be t s (shown_charge a u).entity u c)
 
 abbrev pub spent_next : PlayRules → State → ProbedLine → ℕ → Actor → Updated → LineChoice → State
 spent_next t s place n a u c =

@@ -3,7 +3,8 @@
 /// What a search may choose where a line leaves it open.
 #[derive(Clone, Copy)]
 pub struct LineChoice {
-    /// The `extra_bw` by which a charge is reckoned, where it is another than its line shows: it was read later.
+    /// The `extra_bw` by which a charge is reckoned, where it is another than its line shows: it was read later, or while a function
+    /// changed it by no rule of a task.
     pub extra_bw: Option<u64>,
 
     /// The clock of a replenishment of a blocked task that came after the period it gave.

@@ -8,7 +8,7 @@ ghost use Rattle.probe_run.specs.Sums.{start_timer_in};
 ghost use Rattle.probe_run.specs.Counting.{Goes, Holds, where_it_holds};
 ghost use Rattle.probe_run.specs.Begin.{sums_read, await_enqueue};
 ghost use Rattle.probe_values.specs.Shown.{budget_agrees, flags_agree, yielded_by, sums_agree};
-ghost use Rattle.probe_tasks.specs.Runs.{capacity_may, cost_may_be, claim_later, later_may_be, is_charged, shown_charge, spent_may, spent_next, special_may, spent_with, uncharged_by, updated_with, updated_by};
+ghost use Rattle.probe_tasks.specs.Runs.{capacity_may, cost_may_be, claim_later, is_charged, shown_charge, spent_may, spent_next, special_may, spent_with, uncharged_by, updated_with, updated_by};
 
 use crate::choice::LineChoice;
 use crate::costs::{
@@ -50,15 +50,6 @@ fn shown_charge(actor: Actor, line: Updated) -> Actor
             ..known.entity
         },
         ..known
-    }
-}
-
-fn can_be_later(run: &Run, later: Option<u64>) -> bool
-    ensures { result ≡ later_may_be (state_of run.now) later }
-{
-    match later {
-        None => true,
-        Some(_) => !(run.now() <= run.open_until()),
     }
 }
 
@@ -115,11 +106,9 @@ fn check_chosen(
     entity: Entity,
 ) -> Result<(), AllocError>
     ensures { OnOk result (rules.change ≡ None → Holds (state_of run.old)
-        (later_may_be (state_of run.old) charge.choice.extra_bw
-        && cost_may_be rules (state_of run.old) entity charge.line charge.choice) (state_of run.new)) }
+        (cost_may_be rules (state_of run.old) entity charge.line charge.choice) (state_of run.new)) }
 {
-    let is_legal = can_be_later(run, charge.choice.extra_bw)
-        && can_cost(run, rules, entity, charge.line, charge.choice);
+    let is_legal = can_cost(run, rules, entity, charge.line, charge.choice);
     check_choice(run, charge.place, is_legal)
 }
 
@@ -131,8 +120,7 @@ fn check_costs(
 ) -> Result<(), AllocError>
     ensures { OnOk result (rules.change ≡ None → Holds (state_of run.old)
         (capacity_may (state_of run.old) charge.line
-        && (later_may_be (state_of run.old) charge.choice.extra_bw
-        && cost_may_be rules (state_of run.old) entity charge.line charge.choice)) (state_of run.new)) }
+        && cost_may_be rules (state_of run.old) entity charge.line charge.choice) (state_of run.new)) }
 {
     check_capacity(run, charge.place, charge.line)?;
     check_chosen(run, rules, charge, entity)
@@ -430,7 +418,12 @@ fn note_charge(
         },
     );
     if choice.extra_bw.is_some() {
-        run.note_rule(ExactRule::ChargeReadLater);
+        let is_open = run.now() <= run.open_until();
+        run.note_rule(if is_open {
+            ExactRule::ExtraUnknown
+        } else {
+            ExactRule::ChargeReadLater
+        });
     }
     if choice.cost.is_some() {
         return run.note_entity(charge.place, charge.number, ExactRule::SpeedUnknown);

@@ -215,6 +215,7 @@ pub fn rule_name(rule: ExactRule) -> &'static str {
         ExactRule::ExtraReadLater => "extra_bw read after its line",
         ExactRule::SpeedUnknown => "charge at an unknown speed",
         ExactRule::ChargeReadLater => "charge with an extra_bw read later",
+        ExactRule::ExtraUnknown => "charge with an unknown extra_bw",
     }
 }
 
@@ -243,7 +244,8 @@ pub fn rule_function(rule: ExactRule, kernel: Option<Kernel>) -> &'static str {
         }
         ExactRule::ChargeByItsBandwidth
         | ExactRule::ChargeByWhatIsLeft
-        | ExactRule::ChargeReadLater => { "grub_reclaim" }
+        | ExactRule::ChargeReadLater
+        | ExactRule::ExtraUnknown => { "grub_reclaim" }
         ExactRule::Throttled | ExactRule::Yielded => charging_function(kernel),
         ExactRule::ReplenishedAtOnce
         | ExactRule::Replenished

@@ -77,7 +77,8 @@ pub fn put_heading(
     put_counts(alloc, out, counts)?;
     put_tested(alloc, out, rules)?;
     put_untested(out, rules)?;
-    put_unknown_speeds(alloc, out, rules.of(ExactRule::SpeedUnknown))
+    put_unknown_speeds(alloc, out, rules.of(ExactRule::SpeedUnknown))?;
+    put_unknown_extras(alloc, out, rules.of(ExactRule::ExtraUnknown))
 }
 
 /// Appends how many charges were not compared, since no line shows how fast the CPU ran.
@@ -92,6 +93,21 @@ fn put_unknown_speeds(alloc: Global, out: &mut Vec<u8>, charges: u64) -> Result<
     put(
         out,
         " charges without SCHED_FLAG_RECLAIM took less than their time, and were not compared; scripts/record.sh records the speed of each CPU (fs, cs)\n",
+    )
+}
+
+/// Appends how many charges were not compared, since a function was changing `extra_bw` and no line shows what the charge read.
+fn put_unknown_extras(alloc: Global, out: &mut Vec<u8>, charges: u64) -> Result<(), AllocError>
+    ensures { OnOk result (Extends out.old.items out.new.items) }
+{
+    if charges == 0 {
+        return Ok(());
+    }
+    put(out, "extra_bw unknown: ")?;
+    put_count(alloc, out, charges)?;
+    put(
+        out,
+        " charges within 100 ms of a mark are not by the extra_bw that their lines show, and were not compared: another one explains each\n",
     )
 }
 

@@ -176,9 +176,11 @@ fn verdict_by(
     let text = probe_text(alloc, heading, gathering, played, &counts)?;
     let table = probe_table(alloc, wanted, &gathering.probes.rows)?;
     let mut report = CheckReport::new(alloc);
+    let rules = played.player.run().rules();
     let answers = ProbeAnswers {
         heading,
         counts: &counts,
+        rules: &rules,
         first: gathering.probes.first(played),
         broken: gathering.probes.broken(),
         marks: gathering.probes.marks.counts(),

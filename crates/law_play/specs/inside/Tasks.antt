@@ -5,6 +5,8 @@ use Rattle.trace_data.specs.declared.probe.Enqueued.{Enqueued}
 use Rattle.trace_data.specs.declared.probe.Updated.{Updated}
 use Rattle.trace_data.specs.declared.probe.Ran.{Ran}
 use Rattle.trace_data.specs.declared.probe.Ran.TheVariants.{Span, Clocks}
+use Rattle.law_findings.specs.declared.known.Sign.{Sign}
+use Rattle.law_findings.specs.declared.known.Sign.TheVariants.{BoostNotPicked}
 use Rattle.law_findings.specs.declared.words.LineKind.{LineKind}
 use Rattle.law_findings.specs.declared.words.LineKind.TheVariants.{Update, Dequeue}
 use Rattle.law_play.specs.declared.budget.Before.{Before}
@@ -25,6 +27,7 @@ new_task pid = record {
   arming = None;
   charge = None;
   throttling = None;
+  sign = None;
   before = None;
   most_runtime = None;
   block = None;
@@ -40,6 +43,13 @@ reservation_by l = record {
   entity = l.entity;
   is_boosted = not (l.entity == l.served_by);
 }
+
+-- what the wait behind an enqueue has in common with a known fault: a boost replenishes a throttled task (ENQUEUE_REPLENISH); a task that is
+-- only saved and restored (ENQUEUE_RESTORE) waits on
+abbrev pub wait_sign : Enqueued → Option Sign → Option Sign
+wait_sign l before =
+    if not (l.entity == l.served_by) && l.budget.is_throttled && not (bit_and l.flags 32 == 0) then Some BoostNotPicked
+    else (if bit_and l.flags 2 == 0 then None else before)
 
 -- a task of the frequency governor (SCHED_FLAG_SUGOV) has no reservation of its own
 abbrev pub is_governors : Reservation → Bool

@@ -33,19 +33,20 @@ later_deadline place pid picked other = record {
   sign = None;
 }
 
-abbrev pub lower_runs : ℕ → LowerTask → LawLine → LowerRun → Breach
-lower_runs pid l place run = record {
+abbrev pub lower_runs : ReadyTask → LowerTask → LawLine → LowerRun → Breach
+lower_runs t l place run = record {
   law = Pick;
   place = place;
-  whose = Task pid;
+  whose = Task t.pid;
   finding = LowerRuns l.pid run.nanos run.ticks;
-  sign = None;
+  sign = t.sign;
 }
 
 -- it waits on, and nothing that it waited for is known: it may have been throttled up to this moment
 pub record IsRestarted (old : ReadyTask) (at : ℕ) (new : ReadyTask) : Type 0 where
   pub task : new.task ≡ old.task
   pub pid : new.pid ≡ old.pid
+  pub sign : new.sign ≡ old.sign
   pub from : new.from ≡ old.from
   pub since : new.since ≡ at
   pub ticks : new.ticks ≡ 0
