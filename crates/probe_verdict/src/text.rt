@@ -96,19 +96,19 @@ fn put_unknown_speeds(alloc: Global, out: &mut Vec<u8>, charges: u64) -> Result<
     )
 }
 
-/// Appends how many charges were not compared, since a function was changing `extra_bw` and no line shows what the charge read.
+/// Appends how many charges were by an `extra_bw` that no line shows, since a function was changing it.
 fn put_unknown_extras(alloc: Global, out: &mut Vec<u8>, charges: u64) -> Result<(), AllocError>
     ensures { OnOk result (Extends out.old.items out.new.items) }
 {
     if charges == 0 {
         return Ok(());
     }
-    put(out, "extra_bw unknown: ")?;
-    put_count(alloc, out, charges)?;
     put(
         out,
-        " charges within 100 ms of a mark are not by the extra_bw that their lines show, and were not compared: another one explains each\n",
-    )
+        "extra_bw unknown: charges beside marks, by another extra_bw than their lines show: ",
+    )?;
+    put_count(alloc, out, charges)?;
+    put(out, "\n")
 }
 
 /// Appends the CPUs of which no root domain is followed, if there are any.
