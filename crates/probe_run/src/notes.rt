@@ -77,12 +77,13 @@ impl SumNotes {
         }
     }
 
-    /// What changed sums last: `extra_bw` or `total_bw`, or those with a lock.
+    /// What changed sums last: `extra_bw` or `total_bw`, or those with a lock. An effect without a lock may come behind a later line,
+    /// and what that line did stays noted.
     pub(crate) fn note(&mut self, is_unlocked: bool, why: Why) {
-        if is_unlocked {
-            self.why_unlocked = why;
-        } else {
+        if !is_unlocked {
             self.why = why;
+        } else if self.why_unlocked.line <= why.line {
+            self.why_unlocked = why;
         }
     }
 }
