@@ -1,6 +1,6 @@
 //! What the report tells beside the numbers: it bears on no answer.
 
-use probe_findings::{FIRST_SEEN, Whose, Why};
+use probe_findings::{FIRST_SEEN, ProbedFunction, Whose, Why};
 
 /// What a compared value is of.
 #[derive(Clone, Copy)]
@@ -77,12 +77,18 @@ impl SumNotes {
         }
     }
 
-    /// What changed sums last: `extra_bw` or `total_bw`, or those with a lock. An effect without a lock may come behind a later line,
-    /// and what that line did stays noted.
+    /// Whether root domains were rebuilt since `extra_bw` or `total_bw` was right.
+    fn is_rebuilt(&self) -> bool {
+        matches!(self.why_unlocked.event, ProbedFunction::RebuildTask)
+            && self.unlocked_rights.last < self.why_unlocked.line
+    }
+
+    /// What changed sums last: `extra_bw` or `total_bw`, or those with a lock. A rebuild of root domains may make anything of the first
+    /// two, so it stays noted until they were right.
     pub(crate) fn note(&mut self, is_unlocked: bool, why: Why) {
         if !is_unlocked {
             self.why = why;
-        } else if self.why_unlocked.line <= why.line {
+        } else if !self.is_rebuilt() || matches!(why.event, ProbedFunction::RebuildTask) {
             self.why_unlocked = why;
         }
     }
