@@ -1,6 +1,6 @@
 //! The `extra_bw` of a charge with SCHED_FLAG_RECLAIM: that of its line, unless the task's next line shows that it was another.
 
-use crate::shown::next_budget;
+use crate::shown::{REPLENISHMENTS, next_budget};
 use kernel_changes::cost_by;
 use kernel_entity::{ChargedRunqueue, Entity, charged};
 use probe_explain::ProbeLine;
@@ -58,6 +58,16 @@ impl ReclaimingCharge {
             self.nanos,
         );
         charged(self.entity, cost).budget.runtime
+    }
+
+    /// The budget before so many replenishments.
+    fn before(&self, runtime: i64, times: u32) -> i64 {
+        let added = self
+            .entity
+            .parameters
+            .dl_runtime
+            .wrapping_mul(u64::from(times));
+        runtime.wrapping_sub(added.cast_signed())
     }
 
     /// The `extra_bw` with one more of the pending effects that leaves this budget.
@@ -149,9 +159,9 @@ pub(crate) fn later_extra(
         return None;
     }
     let later = charge.with_pending(run, shown.runtime);
-    if later.is_none() && charge.is_open && !shown.has_fired {
-        charge.with_any(shown.runtime)
-    } else {
-        later
+    if later.is_some() || !charge.is_open {
+        return later;
     }
+    let most = if shown.has_fired { REPLENISHMENTS } else { 0 };
+    (0..=most).find_map(|times| charge.with_any(charge.before(shown.runtime, times)))
 }

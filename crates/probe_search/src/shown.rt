@@ -6,6 +6,9 @@ use probe_run::Run;
 use std::collections::VecDeque;
 use trace_data::{Picked, Probe, Sums};
 
+/// At most so many replenishments are looked for between two lines of a task.
+pub(crate) const REPLENISHMENTS: u32 = 3;
+
 /// The sums of a runqueue that a line shows, and of which CPU.
 #[derive(Clone, Copy)]
 pub(crate) struct ShownSums {

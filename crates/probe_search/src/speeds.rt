@@ -1,6 +1,6 @@
 //! Charges without SCHED_FLAG_RECLAIM in lines that do not show how fast the CPU ran.
 
-use crate::shown::next_budget;
+use crate::shown::{REPLENISHMENTS, next_budget};
 use probe_explain::ProbeLine;
 use probe_findings::ExactRule;
 use probe_run::Run;
@@ -9,9 +9,6 @@ use trace_data::{Armed, Probe, TimerFunction, Updated};
 
 /// SCHED_CAPACITY_SCALE: the fastest CPU at its greatest frequency.
 const WHOLE: u64 = 1024;
-
-/// At most so many replenishments are looked for between two lines of a task.
-const REPLENISHMENTS: u32 = 3;
 
 /// A charge whose speed is not known.
 #[derive(Clone, Copy)]
