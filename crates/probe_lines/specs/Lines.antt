@@ -16,7 +16,7 @@ use Rattle.probe_run.specs.declared.waiting.OpenDequeue.{OpenDequeue}
 use Rattle.probe_run.specs.State.{State}
 use Rattle.probe_run.specs.Counting.{where_it_holds}
 use Rattle.probe_run.specs.Moves.{is_claim_by}
-use Rattle.probe_run.specs.Begin.{is_of_cpu, begun}
+use Rattle.probe_run.specs.Begin.{is_of_cpu, begun, moves_offline}
 use Rattle.probe_tasks.specs.declared.choice.LineChoice.{LineChoice}
 use Rattle.probe_tasks.specs.Enqueues.{enqueued_by}
 use Rattle.probe_tasks.specs.Runs.{updated_by}
@@ -40,7 +40,7 @@ abbrev pub came_early : ℕ → Probe → OpenDequeue → Bool
 came_early x probe w = (w.place.cpu == x) && follows_by w Charge probe
 
 abbrev pub is_effect_by : ℕ → PendingEffect → Bool
-is_effect_by x p = p.place.cpu == x
+is_effect_by x p = (p.place.cpu == x) && not (moves_offline p.effect)
 
 abbrev pub is_timer_to_arm_by : ℕ → TimerToArm → Bool
 is_timer_to_arm_by x y = y.place.cpu == x
@@ -103,7 +103,7 @@ played_by t s place (MigratingLine m) c first = Some (migrating_by s place m)
 played_by t s place (LeftLine l) c first = left_by t s place l
 played_by t s place (AdmittedLine m) c first = Some (admitted_by s place m)
 played_by t s place (ZeroLagFiredLine timer) c first = Some (zero_lag_fired_by s place (s.timers timer))
-played_by t s place (ReplenishFiredLine timer served_by) c first = Some (replenish_fired_by s (s.timers timer) served_by)
+played_by t s place (ReplenishFiredLine timer served_by) c first = Some (replenish_fired_by s place (s.timers timer) served_by)
 played_by t s place (ArmedLine m) c first = armed_by t s place m first
 played_by t s place (ServerStartedLine l) c first = started_by s place l
 played_by t s place (PickedLine l) c first = picked_by t s place l

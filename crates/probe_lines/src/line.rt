@@ -12,6 +12,7 @@ use kernel_entity::{REPLENISH, has};
 use probe_findings::{ExactValue, ProbedFunction, ProbedLine, Quantity};
 use probe_run::{
     Awaits, Claim, ComparedValue, Counted, OpenDequeue, PendingEffect, PlayRules, Run, TimerToArm,
+    moves_offline,
 };
 use probe_tasks::{LineChoice, admitted, dequeued, enqueued, left_class, migrating, updated};
 use probe_timers::{
@@ -91,7 +92,9 @@ fn follows(rest: OpenDequeue, probe: &Probe) -> bool
 fn has_effect(pending: &[PendingEffect], by: u32) -> bool
     ensures { result ≡ list_any (is_effect_by by) pending.now }
 {
-    pending.iter().any(|one| one.place.cpu == by)
+    pending
+        .iter()
+        .any(|one| one.place.cpu == by && !moves_offline(one.effect))
 }
 
 fn has_claim(claims: &[Claim], by: u32) -> bool

@@ -8,7 +8,9 @@ use Rattle.probe_run.specs.declared.rules.Processor.{Processor}
 use Rattle.probe_run.specs.declared.sums.Runqueue.{Runqueue}
 use Rattle.probe_run.specs.declared.waiting.UnlockedSum.{UnlockedSum}
 use Rattle.probe_run.specs.declared.waiting.UnlockedSum.TheVariants.{ExtraBw}
-use Rattle.probe_run.specs.declared.waiting.Effect.TheVariants.{Locks, Returns}
+use Rattle.probe_run.specs.declared.waiting.Effect.{Effect}
+use Rattle.probe_run.specs.declared.waiting.Effect.TheVariants.{Adds, Locks, Returns, MovesOffline}
+use Rattle.probe_run.specs.declared.waiting.PendingEffect.{PendingEffect}
 use Rattle.probe_run.specs.declared.waiting.Awaits.TheVariants.{Enqueue, Nothing}
 use Rattle.probe_run.specs.declared.waiting.OpenDequeue.{OpenDequeue}
 use Rattle.probe_run.specs.declared.waiting.OlderDequeue.{OlderDequeue}
@@ -28,8 +30,19 @@ is_rest_of_other x w = not (w.place.cpu == x)
 abbrev pub is_older_of_other : ℕ → OlderDequeue → Bool
 is_older_of_other x b = not (b.by == x)
 
+-- dl_task_timer returns: a task whose CPU went was moved at a point of its own, or it was not moved
+abbrev pub moves_offline : Effect → Bool
+moves_offline (Adds sum amount) = false
+moves_offline (Locks cpu n delayed) = false
+moves_offline (Returns n) = false
+moves_offline MovesOffline = true
+
+abbrev pub stays_pending : ℕ → PendingEffect → Bool
+stays_pending x p = not ((p.place.cpu == x) && moves_offline p.effect)
+
 abbrev pub begun : State → ℕ → ℕ → Bool → Bool → State
 begun s x at drops_older_dequeues writes = record s {
+  pending = filter (stays_pending x) s.pending;
   open_dequeues = map (begun_dequeue x) s.open_dequeues;
   early = filter (is_rest_of_other x) s.early;
   older_dequeues = if drops_older_dequeues then filter (is_older_of_other x) s.older_dequeues else s.older_dequeues;
@@ -74,6 +87,10 @@ pend_lock s place cpu n delayed = record s { pending = s.pending ++ record { pla
 -- a handler runs until it returns
 abbrev pub pend_return : State → ProbedLine → ℕ → State
 pend_return s place n = record s { pending = s.pending ++ record { place = place; effect = Returns n } ∷ [] }
+
+-- a task whose CPU went is moved before its enqueue
+abbrev pub pend_offline : State → ProbedLine → State
+pend_offline s place = record s { pending = s.pending ++ record { place = place; effect = MovesOffline } ∷ [] }
 
 -- timers
 abbrev pub own_timer : State → ℕ → ℕ → State

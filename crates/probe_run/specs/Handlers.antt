@@ -12,7 +12,7 @@ use Rattle.kernel_functions.specs.Dequeue.{dequeuing_of}
 use Rattle.kernel_functions.specs.Leave.{leaving_of}
 use Rattle.kernel_functions.specs.Admit.{admitting_of}
 use Rattle.probe_run.specs.declared.waiting.Effect.{Effect}
-use Rattle.probe_run.specs.declared.waiting.Effect.TheVariants.{Adds, Locks, Returns}
+use Rattle.probe_run.specs.declared.waiting.Effect.TheVariants.{Adds, Locks, Returns, MovesOffline}
 use Rattle.probe_run.specs.declared.waiting.PendingEffect.{PendingEffect}
 use Rattle.probe_run.specs.State.{State}
 
@@ -21,6 +21,7 @@ abbrev pub returns_by : ℕ → Effect → Bool
 returns_by n (Adds sum amount) = false
 returns_by n (Locks cpu m delayed) = false
 returns_by n (Returns m) = n == m
+returns_by n MovesOffline = false
 
 abbrev pub is_return_of : ℕ → PendingEffect → Bool
 is_return_of n p = returns_by n p.effect
@@ -37,6 +38,7 @@ abbrev pub handles_by : ℕ → Effect → Bool
 handles_by n (Adds sum amount) = false
 handles_by n (Locks cpu m delayed) = zero_lag_by n delayed m
 handles_by n (Returns m) = false
+handles_by n MovesOffline = false
 
 abbrev pub is_handler_by : ℕ → ℕ → PendingEffect → Bool
 is_handler_by x n p = (p.place.cpu == x) && handles_by n p.effect

@@ -12,7 +12,7 @@ use Rattle.probe_run.specs.declared.actor.Actor.{Actor}
 use Rattle.probe_run.specs.declared.rules.PlayRules.{PlayRules}
 use Rattle.probe_run.specs.declared.waiting.UnlockedSum.{UnlockedSum}
 use Rattle.probe_run.specs.declared.waiting.Effect.{Effect}
-use Rattle.probe_run.specs.declared.waiting.Effect.TheVariants.{Adds, Locks, Returns}
+use Rattle.probe_run.specs.declared.waiting.Effect.TheVariants.{Adds, Locks, Returns, MovesOffline}
 use Rattle.probe_run.specs.declared.waiting.PendingEffect.{PendingEffect}
 use Rattle.probe_run.specs.declared.waiting.Claim.{Claim}
 use Rattle.probe_run.specs.declared.waiting.Awaits.{Awaits}
@@ -22,7 +22,7 @@ use Rattle.probe_run.specs.declared.moves.RunMove.{RunMove}
 use Rattle.probe_run.specs.declared.moves.RunMove.TheVariants.{Settle, Meet, OpenDequeue as MakeDequeue}
 use Rattle.probe_run.specs.State.{State, same_sum, actor_at, keep_at}
 use Rattle.probe_run.specs.Special.{is_special}
-use Rattle.probe_run.specs.Sums.{sum_of, put_sum, moved, change, forget, share_in, block_in}
+use Rattle.probe_run.specs.Sums.{sum_of, put_sum, moved, change, forget, forget_unlocked, share_in, block_in}
 use Rattle.probe_run.specs.Counting.{where_it_holds}
 use Rattle.probe_run.specs.Handlers.{handler_runs, is_handler_by, dequeuing_while}
 
@@ -56,6 +56,7 @@ abbrev pub settled_by : State → ProbedLine → Effect → Option State
 settled_by s place (Adds sum amount) = where_it_holds (not (list_any (reads_first place.cpu sum) s.claims)) (put_sum s sum (moved (sum_of s sum) amount))
 settled_by s place (Locks cpu n delayed) = Some (locked_by s place cpu n delayed)
 settled_by s place (Returns n) = where_it_holds (not (list_any (is_handler_by place.cpu n) s.pending)) s
+settled_by s place MovesOffline = Some (forget_unlocked s)
 
 abbrev pub settle_at : State → ℕ → Option PendingEffect → Option State
 settle_at s k None = None

@@ -3,7 +3,7 @@
 ghost use Rattle.std.specs.Prelude.{◌≡◌, ◌<◌, ◌++◌, ◌∷◌, [], OnOk, true, IfSome, filter, map, length, position, slice_get};
 ghost use Rattle.std.specs.List.{list_any};
 ghost use Rattle.probe_run.specs.Runs.{state_of};
-ghost use Rattle.probe_run.specs.Begin.{is_of_cpu, begun_dequeue, is_rest_of_other, is_older_of_other, begun, claim_in, begin_open_dequeue, await_enqueue, again_dequeue, pend_lock, pend_return, own_timer, without_timer_to_arm, sums_open, shown_queue, queue_read, sums_read, queue_opened, sap_opened, with_older, processor_of, keep_processor, with_domain, with_active};
+ghost use Rattle.probe_run.specs.Begin.{is_of_cpu, begun_dequeue, is_rest_of_other, is_older_of_other, stays_pending, begun, claim_in, begin_open_dequeue, await_enqueue, again_dequeue, pend_lock, pend_return, pend_offline, own_timer, without_timer_to_arm, sums_open, shown_queue, queue_read, sums_read, queue_opened, sap_opened, with_older, processor_of, keep_processor, with_domain, with_active};
 
 use crate::rules::{PlayRules, Processor};
 use crate::run::Run;
@@ -11,6 +11,7 @@ use crate::sharing::processor_place;
 use crate::sums::Runqueue;
 use crate::waiting::{
     Awaits, Claim, Effect, OlderDequeue, OpenDequeue, PendingEffect, TimerToArm, UnlockedSum,
+    moves_offline,
 };
 use kernel_functions::Delayed;
 use probe_findings::ProbedLine;
@@ -68,6 +69,18 @@ fn drop_older_dequeues(older_dequeues: &mut Vec<OlderDequeue>, by: u32)
     older_dequeues.retain(|one| is_older_of_other(*one, by));
 }
 
+fn stays_pending(pending: PendingEffect, by: u32) -> bool
+    ensures { result ≡ stays_pending by pending }
+{
+    !(pending.place.cpu == by && moves_offline(pending.effect))
+}
+
+fn drop_offline(pending: &mut Vec<PendingEffect>, by: u32)
+    ensures { pending.new.items ≡ filter (stays_pending by) pending.old.items }
+{
+    pending.retain(|one| stays_pending(*one, by));
+}
+
 fn with_wait(rest: OpenDequeue, by: u32) -> OpenDequeue
     ensures { result ≡ again_dequeue by rest }
 {
@@ -97,7 +110,7 @@ impl Run {
         is_among(self.wrote.as_slice(), cpu)
     }
 
-    /// A line begins: dequeues of its CPU wait for it no more; `drops_older_dequeues` but for lines of timers and marks, `writes` but for
+    /// A line begins: dequeues of its CPU wait for it no more, and none of its timers moves a task; `drops_older_dequeues` but for lines of timers and marks, `writes` but for
     /// lines of charges and timers.
     pub fn begin(
         &mut self,
@@ -109,6 +122,7 @@ impl Run {
             ≡ begun (state_of self.old) place.cpu place.at drops_older_dequeues writes) }
         ensures first { OnOk result ((state_of self.new).first ≡ (state_of self.old).first) }
     {
+        drop_offline(&mut self.pending, place.cpu);
         begin_open_dequeues(self.open_dequeues.as_mut_slice(), place.cpu);
         drop_open_dequeues(&mut self.early, place.cpu);
         if drops_older_dequeues {
@@ -260,6 +274,18 @@ impl Run {
         self.pending.push(PendingEffect {
             place,
             effect: Effect::Returns { entity },
+        })?;
+        Ok(())
+    }
+
+    /// A task whose CPU went is moved to another one, before its enqueue.
+    pub fn pend_offline(&mut self, place: ProbedLine) -> Result<(), AllocError>
+        ensures state { OnOk result (state_of self.new ≡ pend_offline (state_of self.old) place) }
+        ensures first { OnOk result ((state_of self.new).first ≡ (state_of self.old).first) }
+    {
+        self.pending.push(PendingEffect {
+            place,
+            effect: Effect::MovesOffline,
         })?;
         Ok(())
     }

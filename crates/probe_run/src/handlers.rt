@@ -16,7 +16,7 @@ fn returns(number: usize, effect: Effect) -> bool
     ensures { result ≡ returns_by number effect }
 {
     match effect {
-        Effect::Adds { .. } | Effect::Locks { .. } => false,
+        Effect::Adds { .. } | Effect::Locks { .. } | Effect::MovesOffline => false,
         Effect::Returns { entity } => number == entity,
     }
 }
@@ -40,7 +40,7 @@ fn handles(number: usize, effect: Effect) -> bool
     ensures { result ≡ handles_by number effect }
 {
     match effect {
-        Effect::Adds { .. } | Effect::Returns { .. } => false,
+        Effect::Adds { .. } | Effect::Returns { .. } | Effect::MovesOffline => false,
         Effect::Locks {
             entity,
             delayed,

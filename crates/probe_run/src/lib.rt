@@ -29,4 +29,5 @@ pub use run::Run;
 pub use sums::{RootDomain, Runqueue};
 pub use waiting::{
     Awaits, Claim, Effect, OlderDequeue, OpenDequeue, PendingEffect, TimerToArm, UnlockedSum,
+    moves_offline,
 };

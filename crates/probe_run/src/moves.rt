@@ -197,6 +197,10 @@ impl Run {
                 let is_legal = !has_handler(self.pending.as_slice(), place.cpu, entity);
                 self.allow(place, is_legal)
             }
+            Effect::MovesOffline => {
+                self.forget_unlocked();
+                Ok(())
+            }
         }
     }
 

@@ -1,6 +1,7 @@
 //! What has begun and is not done.
 
 ghost use Rattle.std.specs.Prelude.{◌≡◌};
+ghost use Rattle.probe_run.specs.Begin.{moves_offline};
 ghost use Rattle.probe_run.specs.State.{same_sum};
 
 use kernel_functions::Delayed;
@@ -37,6 +38,10 @@ pub enum Effect {
     Returns {
         entity: usize,
     },
+
+    /// `dl_task_timer` may find that the CPU of its task went. Then it gives the task's bandwidth back and takes it again
+    /// (`dl_task_offline_migration`), and `extra_bw` and `total_bw` are meanwhile what no line shows. Till the next line of its CPU.
+    MovesOffline,
 }
 
 /// An effect whose line is played, and whose point is still to come.
@@ -108,6 +113,16 @@ pub struct OlderDequeue {
 
     /// The number of that task.
     pub entity: usize,
+}
+
+/// Whether a task whose CPU went may be moved: that comes at a point of its own, or never.
+pub fn moves_offline(effect: Effect) -> bool
+    ensures { result ≡ moves_offline effect }
+{
+    match effect {
+        Effect::Adds { .. } | Effect::Locks { .. } | Effect::Returns { .. } => false,
+        Effect::MovesOffline => true,
+    }
 }
 
 /// Whether these are the same sum.

@@ -1,6 +1,7 @@
 //! What a line leaves open: the `extra_bw` of a charge, its speed, the clock of a late replenishment.
 
 use crate::reclaiming::{ReclaimingCharge, has_effect_on, is_open_at, later_extra};
+use crate::shown::ChargedTask;
 use crate::speeds::{UnknownSpeed, cost_told};
 use kernel_entity::{Entity, RECLAIM, has};
 use probe_explain::ProbeLine;
@@ -40,15 +41,19 @@ fn updated_choice(
     if line.is_server || !is_charged || is_special(actor.entity) {
         return AS_SHOWN;
     }
-    let flags = actor.entity.parameters.flags;
-    if has(flags, RECLAIM) {
+    let task = ChargedTask {
+        number,
+        pid: line.pid,
+        by: next.place.cpu,
+    };
+    if has(actor.entity.parameters.flags, RECLAIM) {
         let is_open = is_open_at(run, next, ahead);
         if !is_open && !has_effect_on(run, line.cpu) {
             return AS_SHOWN;
         }
         let charge = ReclaimingCharge {
             rules,
-            number,
+            task,
             entity: Entity {
                 budget: line.budget,
                 ..actor.entity
@@ -66,10 +71,9 @@ fn updated_choice(
         return AS_SHOWN;
     }
     let unknown = UnknownSpeed {
-        number,
+        task,
         dl_runtime: actor.entity.parameters.dl_runtime,
         nanos,
-        by: next.place.cpu,
     };
     LineChoice {
         cost: cost_told(run, line, unknown, ahead),

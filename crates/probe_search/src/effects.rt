@@ -4,7 +4,7 @@ use kernel_changes::lock_by;
 use kernel_entity::{Entity, share};
 use kernel_functions::{Delayed, Locked};
 use probe_findings::{Amount, PickedEffects, pick};
-use probe_run::{Effect, PendingEffect, PlayRules, Run, UnlockedSum};
+use probe_run::{Effect, PendingEffect, PlayRules, Run, UnlockedSum, moves_offline};
 use std::alloc::{AllocError, Global};
 
 /// At most so many pending effects are looked at together.
@@ -127,7 +127,7 @@ pub(crate) fn unlocked_amount(
             delayed: Delayed::ZeroLag,
             ..
         } => amount_to_come(run, rules, entity, sum),
-        Effect::Locks { .. } | Effect::Returns { .. } => None,
+        Effect::Locks { .. } | Effect::Returns { .. } | Effect::MovesOffline => None,
     }
 }
 
@@ -161,7 +161,9 @@ fn members(run: &Run, number: u64) -> u64 {
         .count() as u64
 }
 
-/// The first pending effect of a call of this CPU.
+/// The first pending effect of a call of this CPU that comes before its next line.
 pub(crate) fn first_by(run: &Run, cpu: u32) -> Option<usize> {
-    run.pending().iter().position(|one| one.place.cpu == cpu)
+    run.pending()
+        .iter()
+        .position(|one| one.place.cpu == cpu && !moves_offline(one.effect))
 }

@@ -41,7 +41,7 @@ fn may_arm(rules: PlayRules, cpu: u32, ahead: &VecDeque<ProbeLine>) -> bool {
 /// What is pending of the handler of the inactive timer of this entity.
 fn pending_handler(run: &Run, number: usize) -> Option<RunMove> {
     let place = run.pending().iter().position(|one| match one.effect {
-        Effect::Adds { .. } => false,
+        Effect::Adds { .. } | Effect::MovesOffline => false,
         Effect::Locks {
             entity,
             delayed,

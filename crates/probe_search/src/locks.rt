@@ -18,7 +18,7 @@ fn lock_of(pending: &PendingEffect) -> Option<(usize, Delayed)> {
             delayed,
             ..
         } => Some((entity, delayed)),
-        Effect::Adds { .. } | Effect::Returns { .. } => None,
+        Effect::Adds { .. } | Effect::Returns { .. } | Effect::MovesOffline => None,
     }
 }
 

@@ -2,7 +2,7 @@
 
 use crate::effects::{Candidates, is_same, unlocked_amount};
 use probe_findings::Amount;
-use probe_run::{Claim, PlayRules, Run, RunMove, UnlockedSum};
+use probe_run::{Claim, PlayRules, Run, RunMove, UnlockedSum, moves_offline};
 use std::alloc::AllocError;
 
 /// Whether a call of this CPU has read this sum, and has no point yet: then it changes it later.
@@ -95,7 +95,18 @@ pub(crate) fn next_reading(
     Ok(None)
 }
 
-/// Whether a call of this CPU has read a value that has no point yet.
-pub(crate) fn has_reading(run: &Run, cpu: u32) -> bool {
-    run.claims().iter().any(|one| one.place.cpu == cpu)
+/// The first task whose CPU went that is on its way.
+fn first_offline(run: &Run) -> Option<RunMove> {
+    run.pending()
+        .iter()
+        .position(|one| moves_offline(one.effect))
+        .map(|place| RunMove::Settle(place))
+}
+
+/// What becomes of the first value that a call of this CPU has read, where it has no point yet and the next line of the CPU has come.
+pub(crate) fn last_reading(run: &Run, cpu: u32) -> Option<RunMove> {
+    let claim = run.claims().iter().find(|one| one.place.cpu == cpu)?;
+    let differs = run.sum(claim.sum).is_some_and(|known| known != claim.value);
+    let moves_offline = if differs { first_offline(run) } else { None };
+    Some(moves_offline.unwrap_or(RunMove::Meet(cpu)))
 }

@@ -1,6 +1,6 @@
 //! The `extra_bw` of a charge with SCHED_FLAG_RECLAIM: that of its line, unless the task's next line shows that it was another.
 
-use crate::shown::{REPLENISHMENTS, next_budget};
+use crate::shown::{ChargedTask, NextBudget, next_budget};
 use kernel_changes::cost_by;
 use kernel_entity::{ChargedRunqueue, Entity, charged};
 use probe_explain::ProbeLine;
@@ -18,11 +18,14 @@ const WHOLE_BW: u64 = 1 << 20;
 
 const WHOLE_BW_BITS: u32 = 20;
 
+/// At most so many replenishments of a charge are looked for.
+const MOST_REPLENISHMENTS: u64 = 64;
+
 /// A charge of a task that reclaims, with its budget as the line shows it.
 #[derive(Clone, Copy)]
 pub(crate) struct ReclaimingCharge {
     pub rules: PlayRules,
-    pub number: usize,
+    pub task: ChargedTask,
     pub entity: Entity,
     pub line: Updated,
     pub nanos: u64,
@@ -60,18 +63,55 @@ impl ReclaimingCharge {
         charged(self.entity, cost).budget.runtime
     }
 
-    /// The budget before so many replenishments.
-    fn before(&self, runtime: i64, times: u32) -> i64 {
-        let added = self
-            .entity
-            .parameters
-            .dl_runtime
-            .wrapping_mul(u64::from(times));
-        runtime.wrapping_sub(added.cast_signed())
+    /// Whether this `extra_bw` leaves the budget that the task's next line shows.
+    fn agrees(&self, extra_bw: u64, shown: NextBudget) -> bool {
+        let left = self.left(extra_bw);
+        left == shown.runtime || shown.has_fired && self.is_replenished(left, shown.runtime)
     }
 
-    /// The `extra_bw` with one more of the pending effects that leaves this budget.
-    fn with_pending(&self, run: &Run, shown: i64) -> Option<u64> {
+    /// Whether replenishments may make this of a budget. Where its deadline has passed, or it was given up by a yield, it is the runtime.
+    fn is_replenished(&self, left: i64, shown: i64) -> bool {
+        let runtime = self.entity.parameters.dl_runtime.cast_signed();
+        shown == runtime || left < shown && shown.wrapping_sub(left).checked_rem(runtime) == Some(0)
+    }
+
+    /// How many replenishments a charge may need at most: it costs no more than it lasted.
+    fn most_replenishments(&self, shown: NextBudget) -> u64 {
+        if !shown.has_fired {
+            return 0;
+        }
+        let runtime = self.entity.parameters.dl_runtime;
+        match self.nanos.checked_div(runtime) {
+            Some(times) => MOST_REPLENISHMENTS.min(times.wrapping_add(1)),
+            None => 0,
+        }
+    }
+
+    /// Of the `extra_bw` that leave the budget shown, one for each number of replenishments, that which is nearest to the line's.
+    fn nearest(&self, shown: NextBudget) -> Option<u64> {
+        let runtime = self.entity.parameters.dl_runtime;
+        let mut nearest = None;
+        for times in 0..=self.most_replenishments(shown) {
+            let added = runtime.wrapping_mul(times).cast_signed();
+            let Some(extra_bw) = self.with_any(shown.runtime.wrapping_sub(added)) else {
+                continue;
+            };
+            nearest = match nearest {
+                Some(near) if self.distance(near) <= self.distance(extra_bw) => nearest,
+                _ => Some(extra_bw),
+            };
+        }
+        nearest
+    }
+
+    /// How far this `extra_bw` is from the line's.
+    fn distance(&self, extra_bw: u64) -> u64 {
+        let by = extra_bw.wrapping_sub(self.line.sums.extra_bw);
+        by.cast_signed().unsigned_abs()
+    }
+
+    /// The `extra_bw` with one more of the pending effects that leaves the budget shown.
+    fn with_pending(&self, run: &Run, shown: NextBudget) -> Option<u64> {
         for pending in run.pending() {
             if let Effect::Adds {
                 sum: UnlockedSum::ExtraBw(cpu),
@@ -80,7 +120,7 @@ impl ReclaimingCharge {
                 && cpu == self.line.cpu
             {
                 let later = self.line.sums.extra_bw.wrapping_add(amount);
-                if self.left(later) == shown {
+                if self.agrees(later, shown) {
                     return Some(later);
                 }
             }
@@ -154,14 +194,13 @@ pub(crate) fn later_extra(
     charge: &ReclaimingCharge,
     ahead: &VecDeque<ProbeLine>,
 ) -> Option<u64> {
-    let shown = next_budget(run, charge.number, charge.line.pid, ahead)?;
-    if charge.left(charge.line.sums.extra_bw) == shown.runtime {
+    let shown = next_budget(run, charge.task, ahead)?;
+    if charge.agrees(charge.line.sums.extra_bw, shown) {
         return None;
     }
-    let later = charge.with_pending(run, shown.runtime);
+    let later = charge.with_pending(run, shown);
     if later.is_some() || !charge.is_open {
         return later;
     }
-    let most = if shown.has_fired { REPLENISHMENTS } else { 0 };
-    (0..=most).find_map(|times| charge.with_any(charge.before(shown.runtime, times)))
+    charge.nearest(shown)
 }

@@ -4,10 +4,7 @@ use kernel_entity::{WAKEUP, has};
 use probe_explain::ProbeLine;
 use probe_run::Run;
 use std::collections::VecDeque;
-use trace_data::{Picked, Probe, Sums};
-
-/// At most so many replenishments are looked for between two lines of a task.
-pub(crate) const REPLENISHMENTS: u32 = 3;
+use trace_data::{Armed, Picked, Probe, Sums, TimerFunction};
 
 /// The sums of a runqueue that a line shows, and of which CPU.
 #[derive(Clone, Copy)]
@@ -102,23 +99,52 @@ pub(crate) struct NextBudget {
     pub has_fired: bool,
 }
 
-/// What the next line of the task of this number and pid shows; none where no line shows its budget any more.
+/// A task that was charged: its number and pid, and the CPU that wrote the line.
+#[derive(Clone, Copy)]
+pub(crate) struct ChargedTask {
+    pub number: usize,
+    pub pid: u64,
+    pub by: u32,
+}
+
+/// What the next line of a task shows; none where no line shows its budget any more.
 pub(crate) fn next_budget(
     run: &Run,
-    number: usize,
-    pid: u64,
+    task: ChargedTask,
     ahead: &VecDeque<ProbeLine>,
 ) -> Option<NextBudget> {
     let mut has_fired = false;
+    let mut first_armed = None;
     for line in ahead.iter() {
-        if let Probe::ReplenishFired { timer, .. } = &line.probe {
-            has_fired = has_fired || run.timer_owner(*timer) == Some(number);
+        match &line.probe {
+            Probe::Armed(armed) => {
+                if first_armed.is_none() && arms_replenishment(line, task.by) {
+                    first_armed = Some(armed.timer);
+                }
+            }
+            Probe::ReplenishFired { timer, .. } => {
+                let is_own = run.timer_owner(*timer) == Some(task.number);
+                has_fired = has_fired || is_own || first_armed == Some(*timer);
+            }
+            _ => {}
         }
-        if let Some(runtime) = shown_runtime(&line.probe, pid) {
+        if let Some(runtime) = shown_runtime(&line.probe, task.pid) {
             return Some(NextBudget { runtime, has_fired });
         }
     }
     None
+}
+
+/// Whether this line of this CPU arms a replenishment timer.
+pub(crate) fn arms_replenishment(line: &ProbeLine, by: u32) -> bool {
+    line.place.cpu == by
+        && matches!(
+            line.probe,
+            Probe::Armed(Armed {
+                function: TimerFunction::Replenish,
+                ..
+            })
+        )
 }
 
 /// The entity whose own functions a line shows, and whether it is non-contending there.

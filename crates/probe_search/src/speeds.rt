@@ -1,11 +1,14 @@
 //! Charges without SCHED_FLAG_RECLAIM in lines that do not show how fast the CPU ran.
 
-use crate::shown::{REPLENISHMENTS, next_budget};
+use crate::shown::{ChargedTask, arms_replenishment, next_budget};
 use probe_explain::ProbeLine;
 use probe_findings::ExactRule;
 use probe_run::Run;
 use std::collections::VecDeque;
-use trace_data::{Armed, Probe, TimerFunction, Updated};
+use trace_data::Updated;
+
+/// At most so many replenishments are looked for between two lines of a task.
+const REPLENISHMENTS: u32 = 3;
 
 /// SCHED_CAPACITY_SCALE: the fastest CPU at its greatest frequency.
 const WHOLE: u64 = 1024;
@@ -13,11 +16,11 @@ const WHOLE: u64 = 1024;
 /// A charge whose speed is not known.
 #[derive(Clone, Copy)]
 pub(crate) struct UnknownSpeed {
-    /// The number of the task, its `dl_runtime`, how long it has run, and the CPU that wrote the line.
-    pub number: usize,
+    pub task: ChargedTask,
+
+    /// The `dl_runtime` of the task, and how long it has run.
     pub dl_runtime: u64,
     pub nanos: u64,
-    pub by: u32,
 }
 
 /// The capacity of a CPU: as the line shows it, or a note.
@@ -52,15 +55,9 @@ fn is_cost(nanos: u64, capacity: u64, cost: u64) -> bool {
 }
 
 /// Whether the next line of a CPU arms a replenishment timer: the charge before it throttled the task.
-fn arms_replenishment(by: u32, ahead: &VecDeque<ProbeLine>) -> bool {
+fn is_throttled(by: u32, ahead: &VecDeque<ProbeLine>) -> bool {
     match ahead.iter().find(|line| line.place.cpu == by) {
-        Some(line) => matches!(
-            line.probe,
-            Probe::Armed(Armed {
-                function: TimerFunction::Replenish,
-                ..
-            })
-        ),
+        Some(line) => arms_replenishment(line, by),
         None => false,
     }
 }
@@ -92,8 +89,8 @@ pub(crate) fn cost_told(
     let capacity = capacity_of(run, line);
     let full = scaled(charge.nanos, capacity);
     let before = line.budget.runtime;
-    let Some(after) = next_budget(run, charge.number, line.pid, ahead) else {
-        if has_run_slowly(run) && !arms_replenishment(charge.by, ahead) {
+    let Some(after) = next_budget(run, charge.task, ahead) else {
+        if has_run_slowly(run) && !is_throttled(charge.task.by, ahead) {
             return last_cost(before, full);
         }
         return None;

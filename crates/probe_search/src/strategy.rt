@@ -5,7 +5,7 @@ use crate::dequeues::{rest_at_once, rest_before};
 use crate::effects::{Candidates, first_by};
 use crate::handlers::handler_before;
 use crate::locks::{earlier_lock, idle_lock, lock_for_sums};
-use crate::readings::{has_reading, next_reading};
+use crate::readings::{last_reading, next_reading};
 use crate::shown::is_passed_over;
 use probe_explain::{ProbeLine, Search, Step};
 use probe_run::{PlayRules, Run, RunMove};
@@ -60,8 +60,9 @@ impl ProbeSearch {
         ahead: &VecDeque<ProbeLine>,
     ) -> Result<Option<RunMove>, AllocError> {
         let cpu = next.place.cpu;
-        if has_reading(run, cpu) {
-            return Ok(Some(RunMove::Meet(cpu)));
+        let reading = last_reading(run, cpu);
+        if reading.is_some() {
+            return Ok(reading);
         }
         if let Some(place) = first_by(run, cpu) {
             return Ok(Some(RunMove::Settle(place)));
@@ -106,7 +107,7 @@ impl Search for ProbeSearch {
             return Ok(Some(step));
         }
         match run.claims().first() {
-            Some(claim) => Ok(Some(RunMove::Meet(claim.place.cpu))),
+            Some(claim) => Ok(last_reading(run, claim.place.cpu)),
             None => Ok(None),
         }
     }

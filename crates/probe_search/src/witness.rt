@@ -58,6 +58,7 @@ impl<S> Witness<S> {
                 format!(in self.alloc; "settle {line} {what} {cpu}\n")?
             }
             Effect::Returns { .. } => format!(in self.alloc; "settle {line} returned\n")?,
+            Effect::MovesOffline => format!(in self.alloc; "settle {line} offline\n")?,
         };
         self.text.push_str(text.as_str())
     }

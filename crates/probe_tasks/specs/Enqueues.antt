@@ -14,7 +14,7 @@ use Rattle.probe_findings.specs.declared.words.ProbedLine.{ProbedLine}
 use Rattle.probe_run.specs.declared.actor.Actor.{Actor}
 use Rattle.probe_run.specs.declared.rules.PlayRules.{PlayRules}
 use Rattle.probe_run.specs.declared.waiting.Effect.{Effect}
-use Rattle.probe_run.specs.declared.waiting.Effect.TheVariants.{Adds, Locks, Returns}
+use Rattle.probe_run.specs.declared.waiting.Effect.TheVariants.{Adds, Locks, Returns, MovesOffline}
 use Rattle.probe_run.specs.declared.waiting.PendingEffect.{PendingEffect}
 use Rattle.probe_run.specs.State.{State, actor_at, keep_at, task_number, with_task}
 use Rattle.probe_run.specs.Sums.{change, opened, start_timer_in}
@@ -84,6 +84,7 @@ moves_by n (Adds sum amount) = false
 moves_by n (Locks cpu m Moved) = n == m
 moves_by n (Locks cpu m ZeroLag) = false
 moves_by n (Returns m) = false
+moves_by n MovesOffline = false
 
 abbrev pub is_move_of : ℕ → PendingEffect → Bool
 is_move_of n p = moves_by n p.effect

@@ -39,7 +39,7 @@ fn moves(number: usize, effect: Effect) -> bool
     ensures { result ≡ moves_by number effect }
 {
     match effect {
-        Effect::Adds { .. } | Effect::Returns { .. } => false,
+        Effect::Adds { .. } | Effect::Returns { .. } | Effect::MovesOffline => false,
         Effect::Locks {
             entity,
             delayed,

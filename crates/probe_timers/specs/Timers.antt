@@ -21,7 +21,7 @@ use Rattle.probe_run.specs.declared.waiting.OlderDequeue.{OlderDequeue}
 use Rattle.probe_run.specs.State.{State, actor_at, keep_at, found_at}
 use Rattle.probe_run.specs.Sums.{forget, forget_all, forget_unlocked}
 use Rattle.probe_run.specs.Counting.{where_it_holds}
-use Rattle.probe_run.specs.Begin.{pend_lock, pend_return, own_timer, without_timer_to_arm}
+use Rattle.probe_run.specs.Begin.{pend_lock, pend_return, pend_offline, own_timer, without_timer_to_arm}
 use Rattle.probe_values.specs.Shown.{same_signed, address_agrees}
 
 -- inactive_task_timer, before its lock: from here on it runs
@@ -54,24 +54,24 @@ donor_by a (Some served_by) (Some own) = if served_by == own then None else Some
 donor_by a (Some served_by) None = a.entity.donor
 donor_by a None own = a.entity.donor
 
--- its CPU went: before its enqueue dl_task_offline_migration returns its bandwidth, and takes it again
+-- its CPU went: before its enqueue dl_task_offline_migration gives its bandwidth back, and takes it again
 abbrev pub is_inactive : ℕ → Processor → Bool
 is_inactive cpu p = (p.cpu == cpu) && not p.is_active
 
 abbrev pub goes_offline : State → Actor → Bool
 goes_offline s a = a.entity.budget.is_throttled && (a.entity.is_queued && list_any (is_inactive a.cpu) s.processors)
 
-abbrev pub forgets_offline : Bool → State → State
-forgets_offline goes s = if goes then forget_unlocked s else s
+abbrev pub offline_pending : State → ProbedLine → Bool → State
+offline_pending s place goes = if goes then pend_offline s place else s
 
-abbrev pub replenish_actor : State → ℕ → Actor → Option ℕ → State
-replenish_actor s n a served_by =
-    forgets_offline (goes_offline s a)
-    (keep_at s n (record a { entity = replenish_fired_of (record a.entity { donor = donor_by a served_by a.address }) }))
+abbrev pub replenish_actor : State → ProbedLine → ℕ → Actor → Option ℕ → State
+replenish_actor s place n a served_by =
+    let entity = replenish_fired_of (record a.entity { donor = donor_by a served_by a.address }) in
+    offline_pending (keep_at s n (record a { entity = entity })) place (goes_offline s a)
 
-abbrev pub replenish_fired_by : State → Option ℕ → Option ℕ → State
-replenish_fired_by s None served_by = s
-replenish_fired_by s (Some n) served_by = replenish_actor s n (actor_at s n) served_by
+abbrev pub replenish_fired_by : State → ProbedLine → Option ℕ → Option ℕ → State
+replenish_fired_by s place None served_by = s
+replenish_fired_by s place (Some n) served_by = replenish_actor s place n (actor_at s n) served_by
 
 -- hrtimer_start_range_ns
 abbrev pub same_function : TimerFunction → TimerFunction → Bool

@@ -6,7 +6,7 @@ ghost use Rattle.probe_run.specs.Runs.{state_of};
 ghost use Rattle.probe_run.specs.State.{actor_at};
 ghost use Rattle.probe_run.specs.Begin.{pend_return};
 ghost use Rattle.std.specs.List.{list_any};
-ghost use Rattle.probe_timers.specs.Timers.{forget_past, has_left, fired_actor, zero_lag_fired_by, own_parameters, donor_kept, donor_by, is_inactive, goes_offline, forgets_offline, replenish_actor, replenish_fired_by};
+ghost use Rattle.probe_timers.specs.Timers.{forget_past, has_left, fired_actor, zero_lag_fired_by, own_parameters, donor_kept, donor_by, is_inactive, goes_offline, offline_pending, replenish_actor, replenish_fired_by};
 
 use kernel_changes::replenish_fired_by;
 use kernel_entity::Entity;
@@ -131,7 +131,7 @@ fn is_inactive(processors: &[Processor], cpu: u32) -> bool
         .any(|one| one.cpu == cpu && !one.is_active)
 }
 
-/// Whether its CPU went, so that `dl_task_offline_migration` returns its bandwidth and takes it again before its enqueue.
+/// Whether its CPU went, so that `dl_task_offline_migration` gives its bandwidth back and takes it again before its enqueue.
 fn goes_offline(run: &Run, actor: Actor) -> bool
     ensures { result ≡ goes_offline (state_of run.now) actor }
 {
@@ -140,14 +140,15 @@ fn goes_offline(run: &Run, actor: Actor) -> bool
         && is_inactive(run.processors(), actor.cpu)
 }
 
-/// Another CPU may read `extra_bw` between the two: it is taken anew from the next line that shows it.
-fn forget_offline(run: &mut Run, goes: bool)
-    ensures state { state_of run.new ≡ forgets_offline goes (state_of run.old) }
-    ensures first { (state_of run.new).first ≡ (state_of run.old).first }
+/// Another CPU may read `extra_bw` between the two.
+fn pend_offline(run: &mut Run, place: ProbedLine, goes: bool) -> Result<(), AllocError>
+    ensures state { OnOk result (state_of run.new ≡ offline_pending (state_of run.old) place goes) }
+    ensures first { OnOk result ((state_of run.new).first ≡ (state_of run.old).first) }
 {
     if goes {
-        run.forget_unlocked();
+        run.pend_offline(place)?;
     }
+    Ok(())
 }
 
 fn replenish(
@@ -159,7 +160,7 @@ fn replenish(
     served_by: Option<u64>,
 ) -> Result<(), AllocError>
     ensures state { OnOk result (rules.change ≡ None → state_of run.new
-        ≡ replenish_actor (state_of run.old) number actor served_by) }
+        ≡ replenish_actor (state_of run.old) place number actor served_by) }
     ensures first { OnOk result ((state_of run.new).first ≡ (state_of run.old).first) }
 {
     let known = Entity {
@@ -172,8 +173,7 @@ fn replenish(
     }
     let goes = goes_offline(run, actor);
     run.keep(number, Actor { entity, ..actor });
-    forget_offline(run, goes);
-    Ok(())
+    pend_offline(run, place, goes)
 }
 
 /// Plays the line of `dl_task_timer`.
@@ -185,7 +185,7 @@ pub fn replenish_fired(
     served_by: Option<u64>,
 ) -> Result<(), AllocError>
     ensures state { OnOk result (rules.change ≡ None → state_of run.new
-        ≡ replenish_fired_by (state_of run.old) ((state_of run.old).timers timer) served_by) }
+        ≡ replenish_fired_by (state_of run.old) place ((state_of run.old).timers timer) served_by) }
     ensures first { OnOk result ((state_of run.new).first ≡ (state_of run.old).first) }
 {
     match run.timer_owner(timer) {
