@@ -66,8 +66,8 @@ late_of a (Some late) = record a {
   };
 }
 
-abbrev pub yields_throttled : Actor → Enqueued → Bool
-yields_throttled a l = a.entity.budget.is_throttled && a.entity.is_queued && l.budget.is_yielded
+abbrev pub yields_throttled : Actor → Bool → Bool
+yields_throttled a yielded = a.entity.budget.is_throttled && a.entity.is_queued && yielded
 
 abbrev pub refreshed_by : Actor → Bool → Option Parameters → Actor
 refreshed_by a within None = a
@@ -76,7 +76,7 @@ refreshed_by a within (Some p) = if within then a else record a { entity = reser
 abbrev pub refreshed_of : Actor → Enqueued → Option ℕ → Bool → Actor
 refreshed_of a l late within =
     let known = late_of (disarmed a (is_boosted_back a l)) late in
-    refreshed_by (yielded_by known (yields_throttled known l)) within a.entity.new_parameters
+    refreshed_by (yielded_by known (yields_throttled known l.budget.is_yielded)) within a.entity.new_parameters
 
 -- a waking task is moved before it is enqueued
 abbrev pub moves_by : ℕ → Effect → Bool

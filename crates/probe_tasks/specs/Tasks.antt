@@ -23,9 +23,13 @@ use Rattle.probe_run.specs.Sums.{change, forget, forget_all, forget_unlocked, sh
 use Rattle.probe_run.specs.Counting.{where_it_holds}
 use Rattle.probe_run.specs.Handlers.{handler_runs, leaving_while, admitting_while}
 use Rattle.probe_run.specs.Begin.{claim_in, sums_read, begin_open_dequeue, pend_lock}
-use Rattle.probe_values.specs.Shown.{sums_agree, dequeued_agrees, dequeued_shown, left_agrees, left_shown}
+use Rattle.probe_values.specs.Shown.{sums_agree, dequeued_agrees, dequeued_shown, left_agrees, left_shown, yielded_by}
+use Rattle.probe_tasks.specs.Enqueues.{yields_throttled}
 
--- dequeue_task_dl, up to the charge within it
+-- dequeue_task_dl, up to the charge within it; the task may have yielded while it was throttled
+abbrev pub before_dequeue : Actor → Dequeued → Actor
+before_dequeue a d = yielded_by a (yields_throttled a d.budget.is_yielded)
+
 abbrev pub dequeued_next : State → ProbedLine → ℕ → Actor → Dequeued → State
 dequeued_next s place n a d =
     begin_open_dequeue (keep_at (sums_read s place d.cpu d.sums) n (dequeued_shown a d))
@@ -33,7 +37,7 @@ dequeued_next s place n a d =
 
 abbrev pub dequeued_with : State → ProbedLine → ℕ → Dequeued → Option State
 dequeued_with s place n d =
-    let a = actor_at s n in
+    let a = before_dequeue (actor_at s n) d in
     where_it_holds (sums_agree s d.cpu d.sums && dequeued_agrees a d) (dequeued_next s place n a d)
 
 abbrev pub dequeued_by : State → ProbedLine → Dequeued → Option State

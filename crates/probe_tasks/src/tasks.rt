@@ -5,19 +5,28 @@ ghost use Rattle.std.specs.Prelude.{◌≡◌, ◌&&◌, None, OnOk, true};
 ghost use Rattle.probe_run.specs.Runs.{state_of};
 ghost use Rattle.probe_run.specs.Counting.{Goes, Holds};
 ghost use Rattle.probe_values.specs.Shown.{sums_agree, dequeued_agrees};
-ghost use Rattle.probe_tasks.specs.Tasks.{dequeued_next, dequeued_with, dequeued_by, migrating_actor, migrating_with, migrating_by};
+ghost use Rattle.probe_tasks.specs.Tasks.{before_dequeue, dequeued_next, dequeued_with, dequeued_by, migrating_actor, migrating_with, migrating_by};
 
+use crate::expected::yields_off_the_tree;
 use kernel_functions::Delayed;
 use probe_findings::{ExactRule, ProbedLine};
 use probe_run::{Actor, Awaits, OpenDequeue, PlayRules, Run};
 use probe_values::{
-    Compared, ShownSums, check_sums, compare_dequeued, read_and_keep, shown_dequeued,
+    Compared, ShownSums, check_sums, compare_dequeued, read_and_keep, shown_dequeued, with_yield,
 };
 use std::alloc::AllocError;
 use trace_data::{Dequeued, Migrating};
 
 /// TASK_WAKING.
 const WAKING: u64 = 512;
+
+/// The task as it should be at its dequeue.
+fn before_dequeue(actor: Actor, line: Dequeued) -> Actor
+    ensures { result ≡ before_dequeue actor line }
+{
+    let yields = yields_off_the_tree(actor, line.budget.is_yielded);
+    with_yield(actor, yields)
+}
 
 fn check_dequeue(
     run: &mut Run,
@@ -74,7 +83,7 @@ fn begin_dequeue(
     let of = Compared {
         place,
         number,
-        actor: run.actor(number),
+        actor: before_dequeue(run.actor(number), line),
     };
     check_dequeue(run, rules, of, line)?;
     keep_dequeue(run, rules, of, line)?;
