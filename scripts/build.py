@@ -13,7 +13,7 @@ import time
 from concurrent.futures import FIRST_COMPLETED, ThreadPoolExecutor, wait
 
 from crates import CACHE, LIBRARIES, ROOM, crates, kit_folder, lanes, left_by_ci, sum_of
-from shared import ROOT, text_of
+from shared import ROOT, files_below, text_of
 
 BUILD = f"{ROOT}/out/build"
 PROGRAMS = ["grubrun", "grubtrace"]
@@ -40,27 +40,35 @@ def kept(crate):
     return f"{BUILD}/{crate.name}" + "".join(f".{it}" for it in chosen_target[0][1:] if crate.is_static)
 
 
+def statements(crate):
+    """A sum of what crates above read of a library's rlib: not its code, nor the list of sums."""
+    at, = made_of(crate)
+    read = [it for part in ("interface", "below", "lang") for it in files_below(f"{at}/{part}") if not it.endswith("/lang/antt/made.json")]
+    return sum_of(*read, start=at)
+
+
 def reads(crate, kit):
-    """A sum of all that a crate's proof reads: its text, the libraries below it, and the kit."""
-    low = [text_of(f"{BUILD}/{it}.made").split()[-1] for it in crate.below]
+    """A sum of all that a crate's proof reads: its text, the kit, and of the libraries below it their statements. What links them reads all."""
+    links = crate.is_program or crate.is_static
+    low = [text_of(f"{BUILD}/{it}.made").split()[1 if links else 2] for it in crate.below]
     return hashlib.sha256("\n".join([sum_of(*crate.parts), *crate.uses, *low, text_of(f"{kit}/KIT-ID")]).encode()).hexdigest()
 
 
 def commands(crate, kit, jobs, libraries):
     """What proves a crate, and links a program or compiles a static library."""
     words, count = crate.words(kit, libraries), ["--jobs", str(jobs)]
+    # Modules that an earlier run checked, and on which nothing changed, are not checked again.
+    modules = ["--incremental", f"{CACHE}/modules/{crate.name}"]
     toolchain, compiled = ["--toolchain", f"{kit}/toolchain"], f"{BUILD}/{crate.name}.o"
     if crate.is_static:
         target, compilers = chosen_target
-        kind, checked = ["--crate-type", "staticlib", *target], f"{kept(crate)}.checked"
-        # (what was checked is compiled without the built logic)
-        again = ["rattle", "build", *words[:-2], *kind, "--crate-checked", checked, *toolchain]
-        return [["rattle", "check", *words, *kind, *count, "-o", checked],
-                *([*again, "--backend", it, "-o", to] for it, to in zip(compilers.values(), made_of(crate)))]
+        kind = ["--crate-type", "staticlib", *target]
+        return [["rattle", "build", *words, *kind, *count, *modules, *toolchain, "--backend", it, "-o", to]
+                for it, to in zip(compilers.values(), made_of(crate))]
     if not crate.is_program:
-        return [["rattle", "build", *words, *count, "--statements", "-o", *made_of(crate)]]
+        return [["rattle", "build", *words, *count, *modules, "-o", *made_of(crate)]]
     linked = ["rattle-link", "--target", "x86_64-unknown-linux-gnu", *toolchain, "-o", *made_of(crate), compiled]
-    return [["rattle", "build", *words, *count, *toolchain, "--backend", "llvm", "-o", compiled],
+    return [["rattle", "build", *words, *count, *modules, *toolchain, "--backend", "llvm", "-o", compiled],
             [*linked, f"{kit}/c/libos_c.a", f"{kit}/c/liblibc_c.a"]]
 
 
@@ -82,14 +90,17 @@ def prove(crate, kit, jobs, libraries):
 def make(crate, kit, jobs):
     """Proves a crate, and makes what is made of it, unless that was done: whether it is well."""
     note, made, read = f"{kept(crate)}.made", made_of(crate), reads(crate, kit)
-    if os.path.isfile(note) and all(map(os.path.exists, made)) and text_of(note) == f"{read} {sum_of(*made)}":
+    if os.path.isfile(note) and all(map(os.path.exists, made)) and text_of(note).startswith(f"{read} {sum_of(*made)} "):
         return True
-    if not prove(crate, kit, jobs, dict.fromkeys(crate.below, LIBRARIES)):
+    with open(f"{CACHE}/modules/{crate.name}.lock", "w", encoding="utf-8") as lock:
+        fcntl.flock(lock, fcntl.LOCK_EX)
+        well = prove(crate, kit, jobs, dict.fromkeys(crate.below, LIBRARIES))
+    if not well:
         return False
     if read != reads(crate, kit):
         return say(f"build: a file of {crate.name} was changed meanwhile: start it again")
     with open(note, "w", encoding="utf-8") as it:
-        it.write(f"{read} {sum_of(*made)}")
+        it.write(f"{read} {sum_of(*made)} {'-' if crate.is_program or crate.is_static else statements(crate)}")
     return True
 
 
@@ -117,7 +128,7 @@ def main(names):
         return 0
     if not shutil.which("rt"):
         sys.exit("build: there is no rt, the command of the kit")
-    for it in (BUILD, LIBRARIES):
+    for it in (BUILD, LIBRARIES, f"{CACHE}/modules"):
         os.makedirs(it, exist_ok=True)
     with open(f"{LIBRARIES}/of", "w", encoding="utf-8") as it:
         it.write(ROOT)
