@@ -1,8 +1,5 @@
 //! Columns of a panel, each a pixel wide.
 
-ghost use Rattle.std.specs.Prelude.{◌≡◌, [], IfOk};
-ghost use Rattle.size_picture.specs.Columns.{column_of, columns_of, joined, merged};
-
 use std::alloc::{AllocError, Global};
 use svg::LEFT;
 
@@ -35,9 +32,7 @@ pub struct Column {
 }
 
 /// The column of a need, on a scale that ends at `span`.
-fn column_of(need: Need, span: u64) -> Column
-    ensures { result ≡ column_of span need }
-{
+fn column_of(need: Need, span: u64) -> Column {
     let at = u128::from(need.at.min(span));
     Column {
         x: LEFT + (at * u128::from(WIDTH) / u128::from(span.max(1))).min(u128::from(WIDTH)) as u64,
@@ -47,9 +42,7 @@ fn column_of(need: Need, span: u64) -> Column
 }
 
 /// A column with what stands in another one of its place: the greater of both.
-fn joined(column: Column, next: Column) -> Column
-    ensures { result ≡ joined column next }
-{
+fn joined(column: Column, next: Column) -> Column {
     Column {
         x: column.x,
         height: column.height.max(next.height),
@@ -62,9 +55,7 @@ pub(crate) fn columns_of(
     alloc: Global,
     needs: &[Need],
     span: u64,
-) -> Result<Vec<Column>, AllocError>
-    ensures { IfOk result (λ v. v.items ≡ columns_of span needs.now) }
-{
+) -> Result<Vec<Column>, AllocError> {
     let mut columns = Vec::new(alloc);
     let Some((first, rest)) = needs.split_first() else {
         return Ok(columns);

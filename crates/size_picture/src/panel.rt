@@ -1,13 +1,9 @@
 //! The two panels of a task.
 
-ghost use Rattle.std.specs.Prelude.{◌≡◌, ◌++◌, IfOk, OnOk};
-ghost use Rattle.size_picture.specs.Strokes.{bar_of, bars_of, curve_of, curve_strokes, height_of, line_of, lines_of, look_of, needs_strokes, step_of, strokes_of};
-
 use crate::column::{Column, Need, PANEL, WIDTH, columns_of};
 use crate::scale::{place_of, put_counts, put_runtimes, put_time};
 use crate::stroke::{Stroke, StrokeLook, put_strokes};
 use std::alloc::{AllocError, Global};
-use std::marker::Model;
 use svg::{LEFT, put_number};
 
 /// The runtimes at which lines are drawn, in microseconds.
@@ -58,27 +54,15 @@ pub struct PanelStrokes {
     pub curve: Vec<Stroke>,
 }
 
-impl Model for PanelStrokes {
-    ghost use Rattle.size_picture.specs.Strokes.{StrokesShown};
-
-    ghost Value = { StrokesShown };
-
-    ghost view = { λ p. record { needs = p.needs.items; curve = p.curve.items } };
-}
-
 /// How high the two panels of a task are, with their title and their scales, in pixels.
 pub(crate) const HEIGHT: u64 = 424;
 
 /// How high a runtime is on a scale that ends at `top`.
-fn height_of(top: u32, runtime: u32) -> u64
-    ensures { result ≡ height_of top runtime }
-{
+fn height_of(top: u32, runtime: u32) -> u64 {
     u64::from(runtime.min(top)) * u64::from(PANEL) / u64::from(top.max(1))
 }
 
-fn look_of(shade: u32) -> StrokeLook
-    ensures { result ≡ look_of shade }
-{
+fn look_of(shade: u32) -> StrokeLook {
     if shade == 0 {
         StrokeLook::Pale
     } else if shade == 1 {
@@ -88,9 +72,7 @@ fn look_of(shade: u32) -> StrokeLook
     }
 }
 
-fn bar_of(base: u64, column: Column) -> Stroke
-    ensures { result ≡ bar_of base column }
-{
+fn bar_of(base: u64, column: Column) -> Stroke {
     Stroke {
         look: look_of(column.shade),
         x: column.x,
@@ -100,9 +82,7 @@ fn bar_of(base: u64, column: Column) -> Stroke
     }
 }
 
-fn bars_of(alloc: Global, base: u64, columns: &[Column]) -> Result<Vec<Stroke>, AllocError>
-    ensures { IfOk result (λ v. v.items ≡ bars_of base columns.now) }
-{
+fn bars_of(alloc: Global, base: u64, columns: &[Column]) -> Result<Vec<Stroke>, AllocError> {
     let mut bars = Vec::new(alloc);
     for column in columns {
         bars.push(bar_of(base, *column))?;
@@ -111,9 +91,7 @@ fn bars_of(alloc: Global, base: u64, columns: &[Column]) -> Result<Vec<Stroke>, 
 }
 
 /// The curve from a column on to where the next one begins, so many pixels high.
-fn step_of(base: u64, column: Column, to_x: u64, height: u32) -> Stroke
-    ensures { result ≡ step_of base column to_x height }
-{
+fn step_of(base: u64, column: Column, to_x: u64, height: u32) -> Stroke {
     Stroke {
         look: StrokeLook::Curve,
         x: column.x,
@@ -129,9 +107,7 @@ fn curve_of(
     base: u64,
     end: u64,
     columns: &[Column],
-) -> Result<Vec<Stroke>, AllocError>
-    ensures { IfOk result (λ v. v.items ≡ curve_of base end columns.now) }
-{
+) -> Result<Vec<Stroke>, AllocError> {
     let mut curve = Vec::new(alloc);
     let Some((first, rest)) = columns.split_first() else {
         return Ok(curve);
@@ -145,9 +121,7 @@ fn curve_of(
     Ok(curve)
 }
 
-fn line_of(base: u64, top: u32, look: StrokeLook, runtime: u32) -> Stroke
-    ensures { result ≡ line_of base top look runtime }
-{
+fn line_of(base: u64, top: u32, look: StrokeLook, runtime: u32) -> Stroke {
     let y = base.saturating_sub(height_of(top, runtime));
     Stroke {
         look,
@@ -164,9 +138,7 @@ fn add_lines(
     base: u64,
     top: u32,
     runtimes: Option<PanelRuntimes>,
-) -> Result<(), AllocError>
-    ensures { OnOk result (strokes.new.items ≡ strokes.old.items ++ lines_of base top runtimes) }
-{
+) -> Result<(), AllocError> {
     let Some(runtimes) = runtimes else {
         return Ok(());
     };
@@ -179,9 +151,7 @@ fn add_lines(
 }
 
 /// The strokes of the upper panel, whose bottom is at `base`: what each job needs, over the time of the record.
-fn needs_strokes(alloc: Global, base: u64, panel: &Panel<'_>) -> Result<Vec<Stroke>, AllocError>
-    ensures { IfOk result (λ v. v.items ≡ needs_strokes base panel.now) }
-{
+fn needs_strokes(alloc: Global, base: u64, panel: &Panel<'_>) -> Result<Vec<Stroke>, AllocError> {
     let columns = columns_of(alloc, panel.needs, panel.span)?;
     let mut strokes = bars_of(alloc, base, &columns)?;
     add_lines(&mut strokes, base, panel.top, panel.runtimes)?;
@@ -189,9 +159,7 @@ fn needs_strokes(alloc: Global, base: u64, panel: &Panel<'_>) -> Result<Vec<Stro
 }
 
 /// The strokes of the lower panel, whose bottom is at `base`: the runtime for 0, 1, 2 and more late jobs.
-fn curve_strokes(alloc: Global, base: u64, panel: &Panel<'_>) -> Result<Vec<Stroke>, AllocError>
-    ensures { IfOk result (λ v. v.items ≡ curve_strokes base panel.now) }
-{
+fn curve_strokes(alloc: Global, base: u64, panel: &Panel<'_>) -> Result<Vec<Stroke>, AllocError> {
     let columns = columns_of(alloc, panel.sorted, panel.most)?;
     let end = LEFT + place_of(panel.sorted.len() as u64, panel.most, WIDTH);
     let mut strokes = curve_of(alloc, base, end, &columns)?;
@@ -205,9 +173,7 @@ pub fn strokes_of(
     upper: u64,
     lower: u64,
     panel: &Panel<'_>,
-) -> Result<PanelStrokes, AllocError>
-    ensures { IfOk result (λ s. s ≡ strokes_of upper lower panel.now) }
-{
+) -> Result<PanelStrokes, AllocError> {
     let needs = needs_strokes(alloc, upper, panel)?;
     let curve = curve_strokes(alloc, lower, panel)?;
     Ok(PanelStrokes { needs, curve })

@@ -1,7 +1,6 @@
 //! Scales: the marks of runtimes, of moments and of counts.
 
-ghost use Rattle.std.specs.Prelude.{◌≡◌, ◌≤◌};
-ghost use Rattle.size_picture.specs.Columns.{place_of};
+ghost use Rattle.std.specs.Prelude.{◌≤◌};
 
 use crate::column::{PANEL, WIDTH};
 use crate::stroke::{Stroke, StrokeLook, put_stroke};
@@ -25,7 +24,6 @@ fn step_of(top: u64, most: u64) -> u64 {
 
 /// How far a number lies on a scale of so many pixels that ends at `top`.
 pub(crate) fn place_of(number: u64, top: u64, pixels: u64) -> u64
-    ensures value { result ≡ place_of number top pixels }
     ensures most { result ≤ pixels }
 {
     let part = u128::from(number.min(top));

@@ -1,9 +1,5 @@
 //! Slices, as a record's lines bring them.
 
-ghost use Rattle.std.specs.Prelude.{◌≡◌, ◌++◌, [], IfOk, OnOk, option_and_then, slice_get, slice_set};
-ghost use Rattle.std.specs.List.{flat_map};
-ghost use Rattle.state_history.specs.Histories.{are_still_in, begin_by, begun_at, budget_ended, ended_by, is_budget_still_in, is_still_in, last_of, slice_by, state_ended, sums_ended};
-
 use crate::span::{Span, common};
 use crate::state::{TaskState, is_same};
 use std::alloc::{AllocError, Global};
@@ -53,16 +49,12 @@ pub struct History {
 }
 
 /// A span that begins at a moment and has not ended.
-fn begun(at: u64) -> Span
-    ensures { result ≡ begun_at at }
-{
+fn begun(at: u64) -> Span {
     Span { from: at, to: at }
 }
 
 /// What of a span that ends at a moment is in the window.
-fn ended(window: Span, span: Span, at: u64) -> Option<Span>
-    ensures { result ≡ ended_by window span at }
-{
+fn ended(window: Span, span: Span, at: u64) -> Option<Span> {
     common(
         window,
         Span {
@@ -78,9 +70,7 @@ fn end_state(
     window: Span,
     last: Option<Slice>,
     at: u64,
-) -> Result<(), AllocError>
-    ensures { OnOk result (states.new.items ≡ states.old.items ++ state_ended window at last) }
-{
+) -> Result<(), AllocError> {
     let Some(slice) = last else {
         return Ok(());
     };
@@ -99,9 +89,7 @@ fn end_sums(
     window: Span,
     last: Option<SumsSlice>,
     at: u64,
-) -> Result<(), AllocError>
-    ensures { OnOk result (sums.new.items ≡ sums.old.items ++ sums_ended window at last) }
-{
+) -> Result<(), AllocError> {
     let Some(slice) = last else {
         return Ok(());
     };
@@ -120,9 +108,7 @@ fn end_budget(
     window: Span,
     last: Option<BudgetSlice>,
     at: u64,
-) -> Result<(), AllocError>
-    ensures { OnOk result (budgets.new.items ≡ budgets.old.items ++ budget_ended window at last) }
-{
+) -> Result<(), AllocError> {
     let Some(slice) = last else {
         return Ok(());
     };
@@ -136,9 +122,7 @@ fn end_budget(
 }
 
 /// Whether a task is still in the state of its last slice.
-fn is_still(last: Option<Slice>, cpu: u32, state: Option<TaskState>) -> bool
-    ensures { result ≡ is_still_in last cpu state }
-{
+fn is_still(last: Option<Slice>, cpu: u32, state: Option<TaskState>) -> bool {
     match (last, state) {
         (None, None) => true,
         (Some(slice), Some(state)) => slice.cpu == cpu && is_same(slice.state, state),
@@ -147,18 +131,14 @@ fn is_still(last: Option<Slice>, cpu: u32, state: Option<TaskState>) -> bool
 }
 
 /// A state begins no earlier than the one before it.
-fn begin_after(last: Option<Slice>, at: u64) -> u64
-    ensures { result ≡ begin_by last at }
-{
+fn begin_after(last: Option<Slice>, at: u64) -> u64 {
     match last {
         Some(slice) => at.max(slice.span.from),
         None => at,
     }
 }
 
-fn next_slice(task: u32, cpu: u32, state: Option<TaskState>, at: u64) -> Option<Slice>
-    ensures { result ≡ slice_by task cpu state at }
-{
+fn next_slice(task: u32, cpu: u32, state: Option<TaskState>, at: u64) -> Option<Slice> {
     match state {
         Some(state) => Some(Slice {
             task,
@@ -170,9 +150,7 @@ fn next_slice(task: u32, cpu: u32, state: Option<TaskState>, at: u64) -> Option<
     }
 }
 
-fn are_still(last: Option<SumsSlice>, sums: Sums) -> bool
-    ensures { result ≡ are_still_in last sums }
-{
+fn are_still(last: Option<SumsSlice>, sums: Sums) -> bool {
     match last {
         Some(slice) => {
             slice.sums.this_bw == sums.this_bw
@@ -183,10 +161,7 @@ fn are_still(last: Option<SumsSlice>, sums: Sums) -> bool
     }
 }
 
-#[tactic(auto, unfolding(crate::specs::Histories::is_budget_still_in))]
-fn is_budget_still(last: Option<BudgetSlice>, runtime: i64, deadline: u64) -> bool
-    ensures { result ≡ is_budget_still_in last runtime deadline }
-{
+fn is_budget_still(last: Option<BudgetSlice>, runtime: i64, deadline: u64) -> bool {
     match last {
         Some(slice) => slice.runtime == runtime && slice.deadline == deadline,
         None => false,
@@ -194,10 +169,7 @@ fn is_budget_still(last: Option<BudgetSlice>, runtime: i64, deadline: u64) -> bo
 }
 
 /// The value at a place; none behind the last.
-#[tactic(auto, using(std::proofs::lemmas::Option::slice_get_past))]
-fn last_at<T: Copy>(lasts: &[Option<T>], place: usize) -> Option<T>
-    ensures { result ≡ option_and_then (λ s. s) (slice_get lasts.now place) }
-{
+fn last_at<T: Copy>(lasts: &[Option<T>], place: usize) -> Option<T> {
     if place < lasts.len() {
         lasts[place]
     } else {
@@ -206,30 +178,20 @@ fn last_at<T: Copy>(lasts: &[Option<T>], place: usize) -> Option<T>
 }
 
 /// Another value at a place; none behind the last.
-#[tactic(auto, using(std::proofs::lemmas::Option::slice_get_past))]
-fn set_last<T: Copy>(lasts: &mut [Option<T>], place: usize, last: Option<T>)
-    ensures { lasts.new ≡ slice_set lasts.old place last }
-{
+fn set_last<T: Copy>(lasts: &mut [Option<T>], place: usize, last: Option<T>) {
     if place < lasts.len() {
         lasts[place] = last;
     }
 }
 
 impl History {
-    ghost use Rattle.state_history.specs.Shown.{AreShown, IsBudgetShown, IsEnded, IsShown};
-
     /// Nothing yet of so many tasks and runqueues, in this part of a record.
     pub fn new(
         alloc: Global,
         tasks: usize,
         cpus: usize,
         window: Span,
-    ) -> Result<History, AllocError>
-        ensures window { IfOk result (λ h. h.window ≡ window) }
-        ensures states { IfOk result (λ h. h.states.items ≡ []) }
-        ensures sums { IfOk result (λ h. h.sums.items ≡ []) }
-        ensures budgets { IfOk result (λ h. h.budgets.items ≡ []) }
-    {
+    ) -> Result<History, AllocError> {
         let mut history = History {
             states: Vec::new(alloc),
             sums: Vec::new(alloc),
@@ -256,9 +218,7 @@ impl History {
     }
 
     /// The state that a task has not left.
-    pub fn current(&self, task: u32) -> Option<Slice>
-        ensures { result ≡ last_of self.now.last_states.items task }
-    {
+    pub fn current(&self, task: u32) -> Option<Slice> {
         last_at(&self.last_states, task as usize)
     }
 
@@ -269,9 +229,7 @@ impl History {
         cpu: u32,
         state: Option<TaskState>,
         at: u64,
-    ) -> Result<(), AllocError>
-        ensures { OnOk result (IsShown self.old task cpu state at self.new) }
-    {
+    ) -> Result<(), AllocError> {
         let last = last_at(&self.last_states, task as usize);
         if is_still(last, cpu, state) {
             return Ok(());
@@ -287,9 +245,7 @@ impl History {
     }
 
     /// From a moment on the sums of a runqueue are these.
-    pub fn show_sums(&mut self, cpu: u32, sums: Sums, at: u64) -> Result<(), AllocError>
-        ensures { OnOk result (AreShown self.old cpu sums at self.new) }
-    {
+    pub fn show_sums(&mut self, cpu: u32, sums: Sums, at: u64) -> Result<(), AllocError> {
         let last = last_at(&self.last_sums, cpu as usize);
         if are_still(last, sums) {
             return Ok(());
@@ -311,9 +267,7 @@ impl History {
         runtime: i64,
         deadline: u64,
         at: u64,
-    ) -> Result<(), AllocError>
-        ensures { OnOk result (IsBudgetShown self.old task runtime deadline at self.new) }
-    {
+    ) -> Result<(), AllocError> {
         let last = last_at(&self.last_budgets, task as usize);
         if is_budget_still(last, runtime, deadline) {
             return Ok(());
@@ -330,9 +284,7 @@ impl History {
     }
 
     /// The record ends at a moment, and all ends with it.
-    pub fn finish(&mut self, at: u64) -> Result<(), AllocError>
-        ensures { OnOk result (IsEnded self.old at self.new) }
-    {
+    pub fn finish(&mut self, at: u64) -> Result<(), AllocError> {
         end_states(&mut self.states, self.window, &self.last_states, at)?;
         end_all_sums(&mut self.sums, self.window, &self.last_sums, at)?;
         end_budgets(&mut self.budgets, self.window, &self.last_budgets, at)?;
@@ -345,10 +297,7 @@ fn end_states(
     window: Span,
     lasts: &[Option<Slice>],
     at: u64,
-) -> Result<(), AllocError>
-    ensures { OnOk result
-        (states.new.items ≡ states.old.items ++ flat_map (state_ended window at) lasts.now) }
-{
+) -> Result<(), AllocError> {
     for last in lasts {
         end_state(states, window, *last, at)?;
     }
@@ -360,10 +309,7 @@ fn end_all_sums(
     window: Span,
     lasts: &[Option<SumsSlice>],
     at: u64,
-) -> Result<(), AllocError>
-    ensures { OnOk result
-        (sums.new.items ≡ sums.old.items ++ flat_map (sums_ended window at) lasts.now) }
-{
+) -> Result<(), AllocError> {
     for last in lasts {
         end_sums(sums, window, *last, at)?;
     }
@@ -375,10 +321,7 @@ fn end_budgets(
     window: Span,
     lasts: &[Option<BudgetSlice>],
     at: u64,
-) -> Result<(), AllocError>
-    ensures { OnOk result
-        (budgets.new.items ≡ budgets.old.items ++ flat_map (budget_ended window at) lasts.now) }
-{
+) -> Result<(), AllocError> {
     for last in lasts {
         end_budget(budgets, window, *last, at)?;
     }

@@ -1,8 +1,5 @@
 //! A record's states, line by line.
 
-ghost use Rattle.std.specs.Prelude.{◌≡◌, OnOk};
-ghost use Rattle.state_history.specs.Seen.{begin_in, is_running, states_seen};
-
 use crate::{History, Slice, Span, TaskState, is_on_cpu, state_of};
 use std::alloc::{AllocError, Global};
 use timer_play::{RecordSetup, RecordStart, TimedMachine, tell_until};
@@ -48,10 +45,7 @@ pub fn see_task(
     kept: KeptLine,
     number: u32,
     task: DeadlineTask,
-) -> Result<(), AllocError>
-    ensures { OnOk result
-        (history.new.states.items ≡ states_seen history.old kept number task) }
-{
+) -> Result<(), AllocError> {
     let is_running = is_on_cpu(kept.event, number, is_running(history.current(number)));
     let state = state_of(task, is_running);
     history.show(number, task.cpu, state, begin_of(kept, number))?;
@@ -62,9 +56,7 @@ pub fn see_task(
     Ok(())
 }
 
-fn is_running(last: Option<Slice>) -> bool
-    ensures { result ≡ is_running last }
-{
+fn is_running(last: Option<Slice>) -> bool {
     match last {
         Some(slice) => matches!(slice.state, TaskState::Running),
         None => false,
@@ -72,9 +64,7 @@ fn is_running(last: Option<Slice>) -> bool
 }
 
 /// When the state begins in which a line shows a task: a charge is of the span before it.
-fn begin_of(kept: KeptLine, number: u32) -> u64
-    ensures { result ≡ begin_in kept.event kept.at number }
-{
+fn begin_of(kept: KeptLine, number: u32) -> u64 {
     match kept.event {
         KeptEvent::Ran { task, nanos } if task == number => kept.at.saturating_sub(nanos),
         _ => kept.at,

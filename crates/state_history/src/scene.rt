@@ -1,8 +1,5 @@
 //! What is shown of a record.
 
-ghost use Rattle.std.specs.Prelude.{◌≡◌, ◌&&◌, nat_le, unwrap_or};
-ghost use Rattle.state_history.specs.Spans.{is_within};
-
 use crate::history::History;
 use crate::span::Span;
 use timer_tasks::Observation;
@@ -32,16 +29,12 @@ pub struct RecordScene<'a> {
 }
 
 /// Where a timer is shown: at the moment for which the kernel set it, or at the block at which it set none.
-pub fn marked_at(observation: &Observation) -> u64
-    ensures { result ≡ unwrap_or observation.now.kernel observation.now.at }
-{
+pub fn marked_at(observation: &Observation) -> u64 {
     observation.kernel.unwrap_or(observation.at)
 }
 
 /// Whether a moment is in a span.
-pub fn is_within(span: Span, at: u64) -> bool
-    ensures { result ≡ is_within span at }
-{
+pub fn is_within(span: Span, at: u64) -> bool {
     span.from <= at && at <= span.to
 }
 

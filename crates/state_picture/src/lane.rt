@@ -1,8 +1,5 @@
 //! Lanes: one for each task on each runqueue on which it is.
 
-ghost use Rattle.std.specs.Prelude.{◌≡◌, ◌∷◌, [], ◌++◌, IfOk, OnOk, None, if◌then◌else◌};
-ghost use Rattle.state_picture.specs.Lanes.{busy_in, has_lane, is_busy, lanes_at, lanes_in, lanes_on, row_by, rows_in};
-
 use crate::bar::is_in_lane;
 use state_history::Slice;
 use std::alloc::{AllocError, Global};
@@ -35,17 +32,12 @@ pub const LANE: u64 = 16;
 /// How much room the name and the curves of a runqueue take.
 pub const HEAD: u64 = 100;
 
-fn has_lane(slices: &[Slice], lane: Lane) -> bool
-    ensures { result ≡ has_lane slices.now lane }
-{
+fn has_lane(slices: &[Slice], lane: Lane) -> bool {
     slices.iter().any(|slice| is_in_lane(lane, *slice))
 }
 
 /// Appends a lane, if a state is in it.
-fn push_lane(lanes: &mut Vec<Lane>, slices: &[Slice], lane: Lane) -> Result<(), AllocError>
-    ensures { OnOk result (lanes.new.items ≡ lanes.old.items
-        ++ (if has_lane slices.now lane then lane ∷ [] else [])) }
-{
+fn push_lane(lanes: &mut Vec<Lane>, slices: &[Slice], lane: Lane) -> Result<(), AllocError> {
     if has_lane(slices, lane) {
         lanes.push(lane)?;
     }
@@ -53,10 +45,12 @@ fn push_lane(lanes: &mut Vec<Lane>, slices: &[Slice], lane: Lane) -> Result<(), 
 }
 
 /// The lanes of a runqueue, of so many tasks.
-#[tactic(auto, unfolding(crate::specs::Lanes::lanes_on))]
-fn lanes_on(alloc: Global, slices: &[Slice], tasks: u32, cpu: u32) -> Result<Vec<Lane>, AllocError>
-    ensures { IfOk result (λ v. v.items ≡ lanes_on slices.now tasks cpu) }
-{
+fn lanes_on(
+    alloc: Global,
+    slices: &[Slice],
+    tasks: u32,
+    cpu: u32,
+) -> Result<Vec<Lane>, AllocError> {
     let mut lanes = Vec::new(alloc);
     for task in 0..tasks {
         push_lane(&mut lanes, slices, Lane { cpu, task })?;
@@ -64,17 +58,12 @@ fn lanes_on(alloc: Global, slices: &[Slice], tasks: u32, cpu: u32) -> Result<Vec
     Ok(lanes)
 }
 
-fn is_busy(slices: &[Slice], cpu: u32) -> bool
-    ensures { result ≡ is_busy slices.now cpu }
-{
+fn is_busy(slices: &[Slice], cpu: u32) -> bool {
     slices.iter().any(|slice| slice.cpu == cpu)
 }
 
 /// Appends a runqueue, if a task is on it.
-fn push_busy(busy: &mut Vec<u32>, slices: &[Slice], cpu: u32) -> Result<(), AllocError>
-    ensures { OnOk result (busy.new.items ≡ busy.old.items
-        ++ (if is_busy slices.now cpu then cpu ∷ [] else [])) }
-{
+fn push_busy(busy: &mut Vec<u32>, slices: &[Slice], cpu: u32) -> Result<(), AllocError> {
     if is_busy(slices, cpu) {
         busy.push(cpu)?;
     }
@@ -82,9 +71,7 @@ fn push_busy(busy: &mut Vec<u32>, slices: &[Slice], cpu: u32) -> Result<(), Allo
 }
 
 /// Those of so many runqueues on which there is a task.
-fn busy_cpus(alloc: Global, slices: &[Slice], cpus: u32) -> Result<Vec<u32>, AllocError>
-    ensures { IfOk result (λ v. v.items ≡ busy_in slices.now cpus) }
-{
+fn busy_cpus(alloc: Global, slices: &[Slice], cpus: u32) -> Result<Vec<u32>, AllocError> {
     let mut busy = Vec::new(alloc);
     for cpu in 0..cpus {
         push_busy(&mut busy, slices, cpu)?;
@@ -98,9 +85,7 @@ fn lanes_at(
     slices: &[Slice],
     tasks: u32,
     cpus: &[u32],
-) -> Result<Vec<Lane>, AllocError>
-    ensures { IfOk result (λ v. v.items ≡ lanes_at slices.now tasks cpus.now) }
-{
+) -> Result<Vec<Lane>, AllocError> {
     let mut lanes = Vec::new(alloc);
     for cpu in cpus {
         let those = lanes_on(alloc, slices, tasks, *cpu)?;
@@ -115,17 +100,13 @@ pub fn lanes_of(
     slices: &[Slice],
     cpus: u32,
     tasks: u32,
-) -> Result<Vec<Lane>, AllocError>
-    ensures { IfOk result (λ v. v.items ≡ lanes_in slices.now cpus tasks) }
-{
+) -> Result<Vec<Lane>, AllocError> {
     let busy = busy_cpus(alloc, slices, cpus)?;
     lanes_at(alloc, slices, tasks, &busy)
 }
 
 /// Where a lane stands below the one before it.
-fn row_below(before: Option<LaneRow>, lane: Lane) -> LaneRow
-    ensures { result ≡ row_by before lane }
-{
+fn row_below(before: Option<LaneRow>, lane: Lane) -> LaneRow {
     match before {
         None => LaneRow {
             lane,
@@ -145,9 +126,7 @@ fn row_below(before: Option<LaneRow>, lane: Lane) -> LaneRow
 }
 
 /// Where lanes stand, one below the other.
-pub fn rows_of(alloc: Global, lanes: &[Lane]) -> Result<Vec<LaneRow>, AllocError>
-    ensures { IfOk result (λ v. v.items ≡ rows_in None lanes.now) }
-{
+pub fn rows_of(alloc: Global, lanes: &[Lane]) -> Result<Vec<LaneRow>, AllocError> {
     let mut rows = Vec::new(alloc);
     let mut before = None;
     for lane in lanes {

@@ -1,8 +1,5 @@
 //! What a picture shows: each lane in its row, with its bars and marks, and above the first lane of a runqueue its curves.
 
-ghost use Rattle.std.specs.Prelude.{◌≡◌, IfOk, map, take};
-ghost use Rattle.state_picture.specs.Layouts.{curves_above, frame_by, layout_by, layouts_in};
-
 use crate::bar::{StateBar, bars_of};
 use crate::curve::{RunqueueCurves, curves_of};
 use crate::frame::PictureFrame;
@@ -10,7 +7,6 @@ use crate::lane::{Lane, LaneRow, rows_of};
 use crate::mark::{TimerMark, all_marks_of};
 use state_history::RecordScene;
 use std::alloc::{AllocError, Global};
-use std::marker::Model;
 
 /// How much of a record is drawn: in columns so many pixels wide, and so many lanes.
 #[derive(Clone, Copy)]
@@ -33,23 +29,8 @@ pub struct LaneLayout {
     pub curves: Option<RunqueueCurves>,
 }
 
-impl Model for LaneLayout {
-    ghost use Rattle.state_picture.specs.Layouts.{LaneShown};
-
-    ghost Value = { LaneShown };
-
-    ghost view = { λ l. record {
-      row = l.row;
-      bars = l.bars.items;
-      marks = l.marks.items;
-      curves = l.curves;
-    } };
-}
-
 /// The part of a record that is drawn, and how wide its columns are.
-pub(crate) fn frame_of(scene: RecordScene<'_>, grain: Grain) -> PictureFrame
-    ensures { result ≡ frame_by scene.entry grain }
-{
+pub(crate) fn frame_of(scene: RecordScene<'_>, grain: Grain) -> PictureFrame {
     PictureFrame {
         span: scene.span,
         unit: grain.unit,
@@ -62,9 +43,7 @@ fn curves_above(
     scene: RecordScene<'_>,
     frame: PictureFrame,
     row: LaneRow,
-) -> Result<Option<RunqueueCurves>, AllocError>
-    ensures { IfOk result (λ c. c ≡ curves_above frame scene.entry row) }
-{
+) -> Result<Option<RunqueueCurves>, AllocError> {
     if !row.is_first {
         return Ok(None);
     }
@@ -79,9 +58,7 @@ fn layout_of(
     scene: RecordScene<'_>,
     frame: PictureFrame,
     row: LaneRow,
-) -> Result<LaneLayout, AllocError>
-    ensures { IfOk result (λ l. l ≡ layout_by frame scene.entry row) }
-{
+) -> Result<LaneLayout, AllocError> {
     let bars = bars_of(alloc, frame, &scene.history.states, row.lane)?;
     let marks = all_marks_of(alloc, frame, scene.observations, row.lane)?;
     let curves = curves_above(alloc, scene, frame, row)?;
@@ -99,9 +76,7 @@ fn layouts_at(
     scene: RecordScene<'_>,
     frame: PictureFrame,
     rows: &[LaneRow],
-) -> Result<Vec<LaneLayout>, AllocError>
-    ensures { IfOk result (λ v. v.items ≡ map (layout_by frame scene.entry) rows.now) }
-{
+) -> Result<Vec<LaneLayout>, AllocError> {
     let mut layouts = Vec::new(alloc);
     for row in rows {
         let layout = layout_of(alloc, scene, frame, *row)?;
@@ -111,10 +86,7 @@ fn layouts_at(
 }
 
 /// So many of these lanes, or all.
-#[tactic(auto, using(std::proofs::lemmas::List::take_all))]
-fn first_of(lanes: &[Lane], count: usize) -> &[Lane]
-    ensures { result.now ≡ take count lanes.now }
-{
+fn first_of(lanes: &[Lane], count: usize) -> &[Lane] {
     if count < lanes.len() {
         &lanes[..count]
     } else {
@@ -129,9 +101,7 @@ pub fn layouts_of(
     scene: RecordScene<'_>,
     grain: Grain,
     lanes: &[Lane],
-) -> Result<Vec<LaneLayout>, AllocError>
-    ensures { IfOk result (λ v. v.items ≡ layouts_in scene.entry grain lanes.now) }
-{
+) -> Result<Vec<LaneLayout>, AllocError> {
     let rows = rows_of(alloc, first_of(lanes, grain.lanes))?;
     layouts_at(alloc, scene, frame_of(scene, grain), &rows)
 }

@@ -1,8 +1,5 @@
 //! Marks: the kernel's timers.
 
-ghost use Rattle.std.specs.Prelude.{◌≡◌, IfOk};
-ghost use Rattle.state_picture.specs.Marks.{all_marks_in, is_marked_by, kind_by, marks_in};
-
 use crate::frame::PictureFrame;
 use crate::lane::Lane;
 use state_history::{is_within, marked_at};
@@ -30,9 +27,7 @@ pub struct TimerMark {
     pub observation: Observation,
 }
 
-fn kind_of(observation: &Observation) -> MarkKind
-    ensures { result ≡ kind_by observation.now.answer observation.now.kind }
-{
+fn kind_of(observation: &Observation) -> MarkKind {
     match (observation.answer, observation.kind) {
         (ObservedAnswer::Differs, _) => MarkKind::Deviation,
         (_, TimerKind::Block) => MarkKind::ZeroLag,
@@ -41,9 +36,7 @@ fn kind_of(observation: &Observation) -> MarkKind
 }
 
 /// Whether a timer is of this lane, of this kind, and in the span; a block at which the kernel rightly set no timer has no mark.
-fn is_marked(frame: PictureFrame, lane: Lane, kind: MarkKind, observation: &Observation) -> bool
-    ensures { result ≡ is_marked_by frame lane kind observation.now }
-{
+fn is_marked(frame: PictureFrame, lane: Lane, kind: MarkKind, observation: &Observation) -> bool {
     observation.task == lane.task
         && observation.cpu == lane.cpu
         && kind_of(observation) == kind
@@ -58,9 +51,7 @@ pub fn marks_of(
     observations: &[Observation],
     lane: Lane,
     kind: MarkKind,
-) -> Result<Vec<TimerMark>, AllocError>
-    ensures { IfOk result (λ v. v.items ≡ marks_in frame lane kind 0 observations.now) }
-{
+) -> Result<Vec<TimerMark>, AllocError> {
     let mut marks = Vec::new(alloc);
     let mut last = 0;
     for observation in observations {
@@ -83,9 +74,7 @@ pub fn all_marks_of(
     frame: PictureFrame,
     observations: &[Observation],
     lane: Lane,
-) -> Result<Vec<TimerMark>, AllocError>
-    ensures { IfOk result (λ v. v.items ≡ all_marks_in frame lane observations.now) }
-{
+) -> Result<Vec<TimerMark>, AllocError> {
     let mut marks = marks_of(alloc, frame, observations, lane, MarkKind::ZeroLag)?;
     let replenishments = marks_of(alloc, frame, observations, lane, MarkKind::Replenishment)?;
     let deviations = marks_of(alloc, frame, observations, lane, MarkKind::Deviation)?;

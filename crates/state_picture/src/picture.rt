@@ -1,6 +1,6 @@
 //! A picture of a record's states.
 
-ghost use Rattle.std.specs.Prelude.{◌≡◌, ◌<◌, ◌^◌, IfOk, vec_len};
+ghost use Rattle.std.specs.Prelude.{◌<◌, ◌^◌, IfOk, vec_len};
 
 use crate::drawing::put_drawing;
 use crate::lane::lanes_of;

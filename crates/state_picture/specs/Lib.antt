@@ -1,6 +1,0 @@
-pub mod Frames
-pub mod Lanes
-pub mod Bars
-pub mod Curves
-pub mod Marks
-pub mod Layouts
