@@ -1,15 +1,14 @@
 //! Names of laws, of lines, and of known faults.
 
 ghost use Rattle.std.specs.Prelude.{◌≡◌, position};
-ghost use Rattle.law_verdict.specs.Names.{asked_in, fault_word, is_name_of, law_named, law_word, line_word};
+ghost use Rattle.law_verdict.specs.Names.{asked_in, is_name_of, law_named, law_word};
 
 use law_findings::{AskedLaws, LAWS, Law, LineKind, Sign, Standing, TimerKind};
 use trace_lines::first_part;
 
 /// The name of a law, as options and verdicts have it.
 pub fn law_name(law: Law) -> &'static str
-    ensures name { result.now ≡ law_word law }
-    ensures own { (other : Law) → law_word other ≡ result.now → other ≡ law }
+    ensures { result.now ≡ law_word law }
 {
     match law {
         Law::Progress => "progress",
@@ -65,9 +64,7 @@ fn is_name_of(name: &[u8], law: Law) -> bool
 }
 
 /// The event of a line.
-pub fn line_name(kind: LineKind) -> &'static str
-    ensures { result.now ≡ line_word kind }
-{
+pub fn line_name(kind: LineKind) -> &'static str {
     match kind {
         LineKind::Enqueue => "enq",
         LineKind::Update => "upd",
@@ -103,9 +100,7 @@ pub(crate) fn standing_name(standing: Standing) -> &'static str {
 }
 
 /// A known fault, and its heading in KERNEL.
-pub fn fault_name(sign: Sign) -> &'static str
-    ensures { result.now ≡ fault_word sign }
-{
+pub fn fault_name(sign: Sign) -> &'static str {
     match sign {
         Sign::LeftThrottled => {
             "a throttled task that leaves the class and comes back (KERNEL, \"Throttled for ever\")"

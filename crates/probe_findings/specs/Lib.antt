@@ -4,6 +4,5 @@ pub mod Start
 pub mod Kinds
 pub mod Tallies
 pub mod Firsts
-pub mod Choices
 pub mod Settings
 pub mod inside

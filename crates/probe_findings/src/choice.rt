@@ -1,8 +1,5 @@
 //! Which effects explain a value: the smallest set of those that are pending, of equal ones the first in the order of lines.
 
-ghost use Rattle.std.specs.Prelude.{◌≡◌};
-ghost use Rattle.probe_findings.specs.Choices.{less_amount, is_zero_amount, none_picked, none_for, picked_with, pick_some_of, pick_of};
-
 /// What an effect adds to two sums, modulo 2^64.
 #[derive(Clone, Copy)]
 pub struct Amount {
@@ -33,18 +30,7 @@ impl PickedEffects {
     }
 }
 
-fn none() -> PickedEffects
-    ensures { result ≡ none_picked }
-{
-    PickedEffects {
-        places: [0; MOST],
-        count: 0,
-    }
-}
-
-fn with(picked: PickedEffects, place: usize) -> PickedEffects
-    ensures { result ≡ picked_with picked place }
-{
+fn with(picked: PickedEffects, place: usize) -> PickedEffects {
     let mut more = picked;
     if more.count < MOST {
         more.places[more.count] = place;
@@ -53,19 +39,11 @@ fn with(picked: PickedEffects, place: usize) -> PickedEffects
     more
 }
 
-fn less(wanted: Amount, amount: Amount) -> Amount
-    ensures { result ≡ less_amount wanted amount }
-{
+fn less(wanted: Amount, amount: Amount) -> Amount {
     Amount {
         this_bw: wanted.this_bw.wrapping_sub(amount.this_bw),
         running_bw: wanted.running_bw.wrapping_sub(amount.running_bw),
     }
-}
-
-fn is_nothing(amount: Amount) -> bool
-    ensures { result ≡ is_zero_amount amount }
-{
-    amount.this_bw == 0 && amount.running_bw == 0
 }
 
 /// The first set of `count` of these amounts that add up to what is wanted; `place` is the place of the first of them.
@@ -74,9 +52,7 @@ fn pick_some(
     place: usize,
     count: usize,
     wanted: Amount,
-) -> Option<PickedEffects>
-    ensures { result ≡ pick_some_of amounts.now place count wanted }
-{
+) -> Option<PickedEffects> {
     match amounts {
         [] => { if count == 0 { nothing(wanted) } else { None } }
         [first, rest @ ..] => {
@@ -93,20 +69,19 @@ fn pick_some(
 }
 
 /// No effect, where nothing is wanted.
-fn nothing(wanted: Amount) -> Option<PickedEffects>
-    ensures { result ≡ none_for wanted }
-{
-    if is_nothing(wanted) {
-        Some(none())
+fn nothing(wanted: Amount) -> Option<PickedEffects> {
+    if wanted.this_bw == 0 && wanted.running_bw == 0 {
+        Some(PickedEffects {
+            places: [0; MOST],
+            count: 0,
+        })
     } else {
         None
     }
 }
 
 /// The smallest set of at most four that add up to what is wanted, of equal ones the first.
-pub fn pick(amounts: &[Amount], wanted: Amount) -> Option<PickedEffects>
-    ensures { result ≡ pick_of amounts.now wanted }
-{
+pub fn pick(amounts: &[Amount], wanted: Amount) -> Option<PickedEffects> {
     if let Some(picked) = pick_some(amounts, 0, 0, wanted) {
         return Some(picked);
     }

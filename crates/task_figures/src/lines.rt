@@ -1,8 +1,5 @@
 //! The lines of a record, one by one.
 
-ghost use Rattle.std.specs.Prelude.{◌≡◌};
-ghost use Rattle.task_figures.specs.inside.Tasks.{run_by};
-
 use crate::others::{CpuLeft, Others};
 use crate::task::{OpenTask, TaskFigures};
 use std::alloc::{AllocError, Global};
@@ -99,9 +96,7 @@ impl FigureLines {
 }
 
 /// The end of a run that is charged, on the runqueue's clock, and its length.
-fn run_of(line: &Updated) -> (u64, u64)
-    ensures { result ≡ run_by line.now.clock line.now.ran }
-{
+fn run_of(line: &Updated) -> (u64, u64) {
     match line.ran {
         Ran::Span { delta, .. } if delta > 0 => (line.clock, delta.unsigned_abs()),
         Ran::Span { .. } => (line.clock, 0),

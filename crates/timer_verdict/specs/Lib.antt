@@ -1,5 +1,3 @@
-pub mod LeftOut
 pub mod Numbers
 pub mod Speed
 pub mod Verdicts
-pub mod inside

