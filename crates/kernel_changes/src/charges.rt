@@ -1,9 +1,7 @@
 //! What a run takes from a budget, with one rule changed.
 
-ghost use Rattle.std.specs.Prelude.{◌≡◌, ◌-◌, None};
-ghost use Rattle.kernel_entity.specs.Charge.{charging_of, cost_of, inactive_of, top_of};
-ghost use Rattle.kernel_changes.specs.Charges.{charging_with, cost_with, entity_by, law_by, left_of, runqueue_by, with_flags, with_sums};
-ghost use Rattle.kernel_changes.specs.declared.change.RuleChange.TheVariants.{WhatIsLeft};
+ghost use Rattle.std.specs.Prelude.{◌≡◌, None};
+ghost use Rattle.kernel_entity.specs.Charge.{charging_of, cost_of};
 
 use crate::change::RuleChange;
 use kernel_entity::{BW_UNIT, Charge, ChargeLaw, ChargedRunqueue, Entity, RECLAIM, charging, cost};
@@ -20,9 +18,7 @@ struct Reckoned {
     runqueue: ChargedRunqueue,
 }
 
-fn with_sums(runqueue: ChargedRunqueue, this_bw: u64, extra_bw: u64) -> ChargedRunqueue
-    ensures { result ≡ with_sums this_bw extra_bw runqueue }
-{
+fn with_sums(runqueue: ChargedRunqueue, this_bw: u64, extra_bw: u64) -> ChargedRunqueue {
     ChargedRunqueue {
         sums: Sums {
             this_bw,
@@ -33,9 +29,7 @@ fn with_sums(runqueue: ChargedRunqueue, this_bw: u64, extra_bw: u64) -> ChargedR
     }
 }
 
-fn with_flags(entity: Entity, flags: u64) -> Entity
-    ensures { result ≡ with_flags flags entity }
-{
+fn with_flags(entity: Entity, flags: u64) -> Entity {
     Entity {
         parameters: Parameters {
             flags,
@@ -45,9 +39,7 @@ fn with_flags(entity: Entity, flags: u64) -> Entity
     }
 }
 
-fn top(law: ChargeLaw, runqueue: ChargedRunqueue) -> u64
-    ensures { result ≡ top_of law runqueue }
-{
+fn top(law: ChargeLaw, runqueue: ChargedRunqueue) -> u64 {
     match law {
         ChargeLaw::LinuxBefore65 => BW_UNIT,
         ChargeLaw::LinuxFrom65 | ChargeLaw::Documentation => runqueue.max_bw,
@@ -55,9 +47,7 @@ fn top(law: ChargeLaw, runqueue: ChargedRunqueue) -> u64
 }
 
 /// The runqueue with no more inactive bandwidth than what `extra_bw` leaves.
-fn left_alone(law: ChargeLaw, entity: Entity, runqueue: ChargedRunqueue) -> ChargedRunqueue
-    ensures { result ≡ runqueue_by WhatIsLeft law entity runqueue }
-{
+fn left_alone(law: ChargeLaw, entity: Entity, runqueue: ChargedRunqueue) -> ChargedRunqueue {
     let sums = runqueue.sums;
     let inactive = sums.this_bw.wrapping_sub(sums.running_bw);
     let most = top(law, runqueue).saturating_sub(sums.extra_bw);
@@ -73,9 +63,7 @@ fn changed_runqueue(
     law: ChargeLaw,
     entity: Entity,
     runqueue: ChargedRunqueue,
-) -> ChargedRunqueue
-    ensures { result ≡ runqueue_by change law entity runqueue }
-{
+) -> ChargedRunqueue {
     let sums = runqueue.sums;
     let running = sums.running_bw;
     match change {
@@ -107,9 +95,7 @@ fn changed_runqueue(
     }
 }
 
-fn changed_entity(change: RuleChange, entity: Entity) -> Entity
-    ensures { result ≡ entity_by change entity }
-{
+fn changed_entity(change: RuleChange, entity: Entity) -> Entity {
     let flags = entity.parameters.flags;
     match change {
         RuleChange::InFull => with_flags(entity, flags & !RECLAIM),
@@ -119,9 +105,7 @@ fn changed_entity(change: RuleChange, entity: Entity) -> Entity
     }
 }
 
-fn changed_law(change: RuleChange, law: ChargeLaw) -> ChargeLaw
-    ensures { result ≡ law_by change law }
-{
+fn changed_law(change: RuleChange, law: ChargeLaw) -> ChargeLaw {
     match change {
         RuleChange::EquationBefore65 => ChargeLaw::LinuxBefore65,
         RuleChange::EquationFrom65 => ChargeLaw::LinuxFrom65,
@@ -129,11 +113,12 @@ fn changed_law(change: RuleChange, law: ChargeLaw) -> ChargeLaw
     }
 }
 
-fn reckon(change: RuleChange, law: ChargeLaw, entity: Entity, runqueue: ChargedRunqueue) -> Reckoned
-    ensures law { result.law ≡ law_by change law }
-    ensures entity { result.entity ≡ entity_by change entity }
-    ensures runqueue { result.runqueue ≡ runqueue_by change law entity runqueue }
-{
+fn reckon(
+    change: RuleChange,
+    law: ChargeLaw,
+    entity: Entity,
+    runqueue: ChargedRunqueue,
+) -> Reckoned {
     Reckoned {
         law: changed_law(change, law),
         entity: changed_entity(change, entity),
@@ -148,7 +133,6 @@ pub fn charging_by(
     entity: Entity,
     runqueue: ChargedRunqueue,
 ) -> Charge
-    ensures value { result ≡ charging_with change law entity runqueue }
     ensures unchanged { change ≡ None → result ≡ charging_of law entity runqueue }
 {
     match change {
@@ -168,7 +152,6 @@ pub fn cost_by(
     runqueue: ChargedRunqueue,
     nanos: u64,
 ) -> u64
-    ensures value { result ≡ cost_with change law entity runqueue nanos }
     ensures unchanged { change ≡ None → result ≡ cost_of law entity runqueue nanos }
 {
     match change {

@@ -7,8 +7,6 @@ ghost use Rattle.kernel_functions.specs.Leave.{leaving_of};
 ghost use Rattle.kernel_functions.specs.Timer.{fired_of};
 ghost use Rattle.kernel_functions.specs.Admit.{admitting_of};
 ghost use Rattle.kernel_functions.specs.Later.{locked_of};
-ghost use Rattle.kernel_changes.specs.Changes.{admitting_with, changed_admitting, changed_dequeuing, changed_firing, changed_leaving, changed_lock, changed_lock_at, changed_spending, dequeuing_with, firing_with, frees_nothing, had_bandwidth, is_entry, is_move, is_past, leaving_with, left_at_once, left_in_sums, locking_with, spending_with, with_running, with_this};
-ghost use Rattle.kernel_changes.specs.Reckoning.{block_clock, block_entity, later_by, own_again, with_period};
 
 use crate::change::RuleChange;
 use kernel_entity::{Block, Entity, SumsChange, unchanged, zero_lag};
@@ -18,9 +16,7 @@ use kernel_functions::{
 };
 use trace_data::{Admitted, Parameters};
 
-pub(crate) fn with_period(entity: Entity, dl_period: u64) -> Entity
-    ensures { result ≡ with_period dl_period entity }
-{
+pub(crate) fn with_period(entity: Entity, dl_period: u64) -> Entity {
     Entity {
         parameters: Parameters {
             dl_period,
@@ -30,9 +26,7 @@ pub(crate) fn with_period(entity: Entity, dl_period: u64) -> Entity
     }
 }
 
-fn changed_spend(change: RuleChange, entity: Entity, clock: u64, has_run: bool) -> Spending
-    ensures { result ≡ changed_spending change entity clock has_run }
-{
+fn changed_spend(change: RuleChange, entity: Entity, clock: u64, has_run: bool) -> Spending {
     match change {
         RuleChange::UntilDeadline => {
             let by = with_period(entity, entity.parameters.dl_deadline);
@@ -47,9 +41,7 @@ fn changed_spend(change: RuleChange, entity: Entity, clock: u64, has_run: bool) 
 }
 
 /// What becomes of an entity that was charged at this clock.
-#[tactic(auto, unfolding(crate::specs::Changes::spending_with))]
 pub fn spend_by(change: Option<RuleChange>, entity: Entity, clock: u64, has_run: bool) -> Spending
-    ensures value { result ≡ spending_with change entity clock has_run }
     ensures unchanged { change ≡ None → result ≡ spending_of entity clock has_run }
 {
     match change {
@@ -59,18 +51,14 @@ pub fn spend_by(change: Option<RuleChange>, entity: Entity, clock: u64, has_run:
 }
 
 /// The clock by which the wait for the 0-lag time is so many hundredths of what it is.
-fn later(entity: Entity, clock: u64, hundredths: i64) -> u64
-    ensures { result ≡ later_by entity clock hundredths }
-{
+fn later(entity: Entity, clock: u64, hundredths: i64) -> u64 {
     let wait = zero_lag(entity, clock);
     let other = wait.wrapping_mul(hundredths).div_euclid(100);
     clock.wrapping_add(wait.wrapping_sub(other).cast_unsigned())
 }
 
 /// The entity by which a block reckons, and its clock.
-fn blocks_by(change: RuleChange, entity: Entity) -> Entity
-    ensures { result ≡ block_entity change entity }
-{
+fn blocks_by(change: RuleChange, entity: Entity) -> Entity {
     match change {
         RuleChange::ZeroLagByDeadline => with_period(entity, entity.parameters.dl_deadline),
         RuleChange::ZeroLagNever => Entity {
@@ -81,9 +69,7 @@ fn blocks_by(change: RuleChange, entity: Entity) -> Entity
     }
 }
 
-fn blocks_at(change: RuleChange, entity: Entity, clock: u64) -> u64
-    ensures { result ≡ block_clock change entity clock }
-{
+fn blocks_at(change: RuleChange, entity: Entity, clock: u64) -> u64 {
     match change {
         RuleChange::ZeroLagShorter => later(entity, clock, 95),
         RuleChange::ZeroLagLonger => later(entity, clock, 101),
@@ -92,9 +78,7 @@ fn blocks_at(change: RuleChange, entity: Entity, clock: u64) -> u64
 }
 
 /// The entity after such a block, with what it had itself.
-fn own_again(change: RuleChange, before: Entity, after: Entity) -> Entity
-    ensures { result ≡ own_again change before after }
-{
+fn own_again(change: RuleChange, before: Entity, after: Entity) -> Entity {
     match change {
         RuleChange::ZeroLagByDeadline => {
             if after.parameters.dl_runtime == 0 {
@@ -111,45 +95,35 @@ fn own_again(change: RuleChange, before: Entity, after: Entity) -> Entity
     }
 }
 
-fn with_this(sums: SumsChange, bw: u64) -> SumsChange
-    ensures { result ≡ with_this bw sums }
-{
+fn with_this(sums: SumsChange, bw: u64) -> SumsChange {
     SumsChange {
         this_bw: sums.this_bw.wrapping_add(bw),
         ..sums
     }
 }
 
-fn with_running(sums: SumsChange, bw: u64) -> SumsChange
-    ensures { result ≡ with_running bw sums }
-{
+fn with_running(sums: SumsChange, bw: u64) -> SumsChange {
     SumsChange {
         running_bw: sums.running_bw.wrapping_add(bw),
         ..sums
     }
 }
 
-fn frees_nothing(sums: SumsChange) -> SumsChange
-    ensures { result ≡ frees_nothing sums }
-{
+fn frees_nothing(sums: SumsChange) -> SumsChange {
     SumsChange {
         freed: None,
         ..sums
     }
 }
 
-pub(crate) fn moves(arrival: Arrival) -> bool
-    ensures { result ≡ is_move arrival }
-{
+pub(crate) fn moves(arrival: Arrival) -> bool {
     match arrival {
         Arrival::Moves => true,
         Arrival::Stays | Arrival::Restores => false,
     }
 }
 
-fn is_past(block: Option<Block>) -> bool
-    ensures { result ≡ is_past block }
-{
+fn is_past(block: Option<Block>) -> bool {
     match block {
         Some(Block::Past) => true,
         Some(Block::Unreserved | Block::ZeroLagTimer(_)) | None => false,
@@ -157,9 +131,7 @@ fn is_past(block: Option<Block>) -> bool
 }
 
 /// What a dequeue takes from the sums, where it leaves something in them.
-fn left_in_sums(change: RuleChange, entity: Entity, done: Dequeuing) -> SumsChange
-    ensures { result ≡ left_in_sums change entity done }
-{
+fn left_in_sums(change: RuleChange, entity: Entity, done: Dequeuing) -> SumsChange {
     match change {
         RuleChange::MoveLeavesThis => {
             if moves(done.departure) {
@@ -192,9 +164,7 @@ fn changed_dequeue(
     flags: u64,
     on_rq: u64,
     clock: u64,
-) -> Dequeuing
-    ensures { result ≡ changed_dequeuing change entity flags on_rq clock }
-{
+) -> Dequeuing {
     let by = blocks_by(change, entity);
     let done = dequeue(by, flags, on_rq, blocks_at(change, entity, clock));
     Dequeuing {
@@ -205,7 +175,6 @@ fn changed_dequeue(
 }
 
 /// What a dequeue with these DEQUEUE_ flags does, after the charge in it.
-#[tactic(auto, unfolding(crate::specs::Changes::dequeuing_with))]
 pub fn dequeue_by(
     change: Option<RuleChange>,
     entity: Entity,
@@ -213,7 +182,6 @@ pub fn dequeue_by(
     on_rq: u64,
     clock: u64,
 ) -> Dequeuing
-    ensures value { result ≡ dequeuing_with change entity flags on_rq clock }
     ensures unchanged { change ≡ None → result ≡ dequeuing_of entity flags on_rq clock }
 {
     match change {
@@ -223,9 +191,7 @@ pub fn dequeue_by(
 }
 
 /// Leaving the class with no block.
-fn left_at_once(entity: Entity) -> Leaving
-    ensures { result ≡ left_at_once entity }
-{
+fn left_at_once(entity: Entity) -> Leaving {
     Leaving {
         entity: Entity {
             is_in_class: false,
@@ -238,9 +204,7 @@ fn left_at_once(entity: Entity) -> Leaving
     }
 }
 
-fn changed_leave(change: RuleChange, entity: Entity, on_rq: u64, clock: u64) -> Leaving
-    ensures { result ≡ changed_leaving change entity on_rq clock }
-{
+fn changed_leave(change: RuleChange, entity: Entity, on_rq: u64, clock: u64) -> Leaving {
     let by = blocks_by(change, entity);
     let done = leave(by, on_rq, blocks_at(change, entity, clock));
     match change {
@@ -269,9 +233,7 @@ fn changed_leave(change: RuleChange, entity: Entity, on_rq: u64, clock: u64) -> 
 }
 
 /// What leaving the class at this clock does.
-#[tactic(auto, unfolding(crate::specs::Changes::leaving_with))]
 pub fn leave_by(change: Option<RuleChange>, entity: Entity, on_rq: u64, clock: u64) -> Leaving
-    ensures value { result ≡ leaving_with change entity on_rq clock }
     ensures unchanged { change ≡ None → result ≡ leaving_of entity on_rq clock }
 {
     match change {
@@ -280,9 +242,7 @@ pub fn leave_by(change: Option<RuleChange>, entity: Entity, on_rq: u64, clock: u
     }
 }
 
-fn changed_fired(change: RuleChange, entity: Entity) -> Fired
-    ensures { result ≡ changed_firing change entity }
-{
+fn changed_fired(change: RuleChange, entity: Entity) -> Fired {
     let done = zero_lag_fired(entity);
     match change {
         RuleChange::EndFreesNothing => Fired {
@@ -314,9 +274,7 @@ fn changed_fired(change: RuleChange, entity: Entity) -> Fired
 }
 
 /// What the timer of the 0-lag time does.
-#[tactic(auto, unfolding(crate::specs::Changes::firing_with))]
 pub fn fired_by(change: Option<RuleChange>, entity: Entity) -> Fired
-    ensures value { result ≡ firing_with change entity }
     ensures unchanged { change ≡ None → result ≡ fired_of entity }
 {
     match change {
@@ -326,27 +284,21 @@ pub fn fired_by(change: Option<RuleChange>, entity: Entity) -> Fired
 }
 
 /// Whether a task comes into the class, or back.
-fn enters(admission: Admission) -> bool
-    ensures { result ≡ is_entry admission }
-{
+fn enters(admission: Admission) -> bool {
     match admission {
         Admission::New | Admission::Back => true,
         Admission::Other | Admission::Refused | Admission::Same | Admission::Changed => false,
     }
 }
 
-fn had_bandwidth(admission: Admission) -> bool
-    ensures { result ≡ had_bandwidth admission }
-{
+fn had_bandwidth(admission: Admission) -> bool {
     match admission {
         Admission::Changed | Admission::Back => true,
         Admission::Other | Admission::Refused | Admission::Same | Admission::New => false,
     }
 }
 
-fn changed_admit(change: RuleChange, entity: Entity, line: Admitted, room: u64) -> Admitting
-    ensures { result ≡ changed_admitting change entity line room }
-{
+fn changed_admit(change: RuleChange, entity: Entity, line: Admitted, room: u64) -> Admitting {
     let done = admit(entity, line, room);
     match change {
         RuleChange::AdmissionTakesNothing => {
@@ -377,9 +329,7 @@ fn changed_admit(change: RuleChange, entity: Entity, line: Admitted, room: u64) 
 }
 
 /// What a call does that asks for a reservation in a root domain with room for so much bandwidth.
-#[tactic(auto, unfolding(crate::specs::Changes::admitting_with))]
 pub fn admit_by(change: Option<RuleChange>, entity: Entity, line: Admitted, room: u64) -> Admitting
-    ensures value { result ≡ admitting_with change entity line room }
     ensures unchanged { change ≡ None → result ≡ admitting_of entity line room }
 {
     match change {
@@ -389,9 +339,7 @@ pub fn admit_by(change: Option<RuleChange>, entity: Entity, line: Admitted, room
 }
 
 /// What `inactive_task_timer` does once it has its lock.
-fn changed_lock_at(change: RuleChange, entity: Entity) -> Locked
-    ensures { result ≡ changed_lock_at change entity }
-{
+fn changed_lock_at(change: RuleChange, entity: Entity) -> Locked {
     let done = lock(entity, Delayed::ZeroLag);
     match change {
         RuleChange::EndFreesNothing => Locked {
@@ -422,9 +370,7 @@ fn changed_lock_at(change: RuleChange, entity: Entity) -> Locked
     }
 }
 
-fn changed_lock(change: RuleChange, entity: Entity, delayed: Delayed) -> Locked
-    ensures { result ≡ changed_lock change entity delayed }
-{
+fn changed_lock(change: RuleChange, entity: Entity, delayed: Delayed) -> Locked {
     match delayed {
         Delayed::Moved => lock(entity, Delayed::Moved),
         Delayed::ZeroLag => changed_lock_at(change, entity),
@@ -432,9 +378,7 @@ fn changed_lock(change: RuleChange, entity: Entity, delayed: Delayed) -> Locked
 }
 
 /// What a function does once it has its lock.
-#[tactic(auto, unfolding(crate::specs::Changes::locking_with))]
 pub fn lock_by(change: Option<RuleChange>, entity: Entity, delayed: Delayed) -> Locked
-    ensures value { result ≡ locking_with change entity delayed }
     ensures unchanged { change ≡ None → result ≡ locked_of entity delayed }
 {
     match change {

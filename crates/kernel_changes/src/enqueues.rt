@@ -2,7 +2,6 @@
 
 ghost use Rattle.std.specs.Prelude.{◌≡◌, None};
 ghost use Rattle.kernel_functions.specs.Enqueue.{enqueuing_of};
-ghost use Rattle.kernel_changes.specs.Changes.{before_refill, changed_enqueue, changed_enqueuing, contends, contends_on, enqueued_by, enqueuing_with, is_no_wake, is_replenishment, is_restart, is_wake, never_constrained, of_one_period, rewoken, waking_with};
 
 use crate::change::RuleChange;
 use crate::departures::{moves, with_period};
@@ -13,16 +12,12 @@ use kernel_functions::{Enqueuing, Refill, enqueue};
 use trace_data::Enqueued;
 
 /// The entity that it leaves, with the budget that it had.
-fn before_refill(entity: Entity, done: Enqueuing) -> Entity
-    ensures { result ≡ before_refill entity done }
-{
+fn before_refill(entity: Entity, done: Enqueuing) -> Entity {
     with_budget(done.entity, entity.budget.runtime, entity.budget.deadline)
 }
 
 /// An enqueue that never throttles a constrained task.
-fn never_constrained(law: ChargeLaw, entity: Entity, line: Enqueued) -> Enqueuing
-    ensures { result ≡ never_constrained law entity line }
-{
+fn never_constrained(law: ChargeLaw, entity: Entity, line: Enqueued) -> Enqueuing {
     let by = with_period(entity, entity.parameters.dl_deadline);
     let done = enqueue(law, by, line);
     Enqueuing {
@@ -34,9 +29,7 @@ fn never_constrained(law: ChargeLaw, entity: Entity, line: Enqueued) -> Enqueuin
     }
 }
 
-fn is_wake(refill: Refill) -> bool
-    ensures { result ≡ is_wake refill }
-{
+fn is_wake(refill: Refill) -> bool {
     match refill {
         Refill::Wakes(_) => true,
         Refill::Waits | Refill::Stays | Refill::Replenishes | Refill::Restarts => false,
@@ -44,27 +37,21 @@ fn is_wake(refill: Refill) -> bool
 }
 
 /// Whether a refill is neither a wake nor a wait.
-fn is_no_wake(refill: Refill) -> bool
-    ensures { result ≡ is_no_wake refill }
-{
+fn is_no_wake(refill: Refill) -> bool {
     match refill {
         Refill::Stays | Refill::Replenishes | Refill::Restarts => true,
         Refill::Wakes(_) | Refill::Waits => false,
     }
 }
 
-fn is_replenishment(refill: Refill) -> bool
-    ensures { result ≡ is_replenishment refill }
-{
+fn is_replenishment(refill: Refill) -> bool {
     match refill {
         Refill::Replenishes => true,
         Refill::Wakes(_) | Refill::Waits | Refill::Stays | Refill::Restarts => false,
     }
 }
 
-fn is_restart(refill: Refill) -> bool
-    ensures { result ≡ is_restart refill }
-{
+fn is_restart(refill: Refill) -> bool {
     match refill {
         Refill::Restarts => true,
         Refill::Wakes(_) | Refill::Waits | Refill::Stays | Refill::Replenishes => false,
@@ -72,9 +59,7 @@ fn is_restart(refill: Refill) -> bool
 }
 
 /// Whether a wake comes before the 0-lag time.
-fn contends_on(contention: Option<Contention>) -> bool
-    ensures { result ≡ contends_on contention }
-{
+fn contends_on(contention: Option<Contention>) -> bool {
     match contention {
         Some(Contention::StillRuns) => true,
         Some(Contention::Unreserved | Contention::RunsAgain) | None => false,
@@ -82,9 +67,7 @@ fn contends_on(contention: Option<Contention>) -> bool
 }
 
 /// Whether a task that reserves something wakes.
-fn contends(contention: Option<Contention>) -> bool
-    ensures { result ≡ contends contention }
-{
+fn contends(contention: Option<Contention>) -> bool {
     match contention {
         Some(Contention::StillRuns | Contention::RunsAgain) => true,
         Some(Contention::Unreserved) | None => false,
@@ -98,9 +81,7 @@ fn rewoken(
     entity: Entity,
     clock: u64,
     done: Enqueuing,
-) -> Enqueuing
-    ensures { result ≡ rewoken change law entity clock done }
-{
+) -> Enqueuing {
     let before = before_refill(entity, done);
     let wake = changed_waking(change, law, before, clock);
     Enqueuing {
@@ -116,9 +97,7 @@ fn waking_by(
     entity: Entity,
     line: Enqueued,
     done: Enqueuing,
-) -> Enqueuing
-    ensures { result ≡ waking_with change law entity line done }
-{
+) -> Enqueuing {
     if is_wake(done.refill) {
         rewoken(change, law, entity, line.clock, done)
     } else {
@@ -127,9 +106,7 @@ fn waking_by(
 }
 
 /// A replenishment of one period, by the donor that serves it now.
-fn of_one_period(entity: Entity, line: Enqueued, done: Enqueuing) -> Enqueuing
-    ensures { result ≡ of_one_period entity line done }
-{
+fn of_one_period(entity: Entity, line: Enqueued, done: Enqueuing) -> Enqueuing {
     let served = Entity {
         donor: done.entity.donor,
         ..entity
@@ -146,9 +123,7 @@ fn of_one_period(entity: Entity, line: Enqueued, done: Enqueuing) -> Enqueuing
 }
 
 /// What an enqueue finds that may replenish.
-fn found(change: RuleChange, entity: Entity, line: Enqueued) -> Entity
-    ensures { result ≡ enqueued_by change entity line }
-{
+fn found(change: RuleChange, entity: Entity, line: Enqueued) -> Entity {
     if has(line.flags, REPLENISH) {
         with_left(change, entity)
     } else {
@@ -163,9 +138,7 @@ fn after_enqueue(
     entity: Entity,
     line: Enqueued,
     done: Enqueuing,
-) -> Enqueuing
-    ensures { result ≡ changed_enqueue change law entity line done }
-{
+) -> Enqueuing {
     match change {
         RuleChange::NotConstrained => {
             if done.is_constrained {
@@ -241,22 +214,23 @@ fn after_enqueue(
     }
 }
 
-fn changed_enqueue(change: RuleChange, law: ChargeLaw, entity: Entity, line: Enqueued) -> Enqueuing
-    ensures { result ≡ changed_enqueuing change law entity line }
-{
+fn changed_enqueue(
+    change: RuleChange,
+    law: ChargeLaw,
+    entity: Entity,
+    line: Enqueued,
+) -> Enqueuing {
     let done = enqueue(law, found(change, entity, line), line);
     after_enqueue(change, law, entity, line, done)
 }
 
 /// What an enqueue does to an entity that has the values of the line.
-#[tactic(auto, unfolding(crate::specs::Changes::enqueuing_with))]
 pub fn enqueue_by(
     change: Option<RuleChange>,
     law: ChargeLaw,
     entity: Entity,
     line: Enqueued,
 ) -> Enqueuing
-    ensures value { result ≡ enqueuing_with change law entity line }
     ensures unchanged { change ≡ None → result ≡ enqueuing_of law entity line }
 {
     match change {

@@ -8,7 +8,6 @@ mod change;
 mod charges;
 mod departures;
 mod enqueues;
-mod laws;
 mod refills;
 mod replenishments;
 
@@ -16,5 +15,4 @@ pub use change::{ALL, CHANGES, RuleChange};
 pub use charges::{charging_by, cost_by};
 pub use departures::{admit_by, dequeue_by, fired_by, leave_by, lock_by, spend_by};
 pub use enqueues::enqueue_by;
-pub use laws::other_rules_stay;
 pub use replenishments::replenish_fired_by;

@@ -1,8 +1,5 @@
 //! What a wake does to budget and deadline, with one rule changed.
 
-ghost use Rattle.std.specs.Prelude.{◌≡◌};
-ghost use Rattle.kernel_changes.specs.Reckoning.{not_revised, revised_by_bandwidth, underflows, wake_for, waking_by, with_deadline_as_period, woken_by};
-
 use crate::change::RuleChange;
 use crate::replenishments::with_budget;
 use kernel_entity::{ChargeLaw, Entity, Wake, is_before, overflows, served_by, waking, woken};
@@ -12,9 +9,7 @@ use trace_data::{Donor, Parameters};
 const EARLY: u64 = 1 << 20;
 
 /// The entity with the period in place of the deadline, its own and its donor's.
-fn with_deadline_as_period(entity: Entity) -> Entity
-    ensures { result ≡ with_deadline_as_period entity }
-{
+fn with_deadline_as_period(entity: Entity) -> Entity {
     Entity {
         parameters: Parameters {
             dl_deadline: entity.parameters.dl_period,
@@ -32,9 +27,7 @@ fn with_deadline_as_period(entity: Entity) -> Entity
 }
 
 /// Whether the budget until the deadline is less than the reservation gives.
-fn underflows(entity: Entity, clock: u64) -> bool
-    ensures { result ≡ underflows entity clock }
-{
+fn underflows(entity: Entity, clock: u64) -> bool {
     let serving = served_by(entity);
     let budget = entity.budget.runtime;
     let span = entity.budget.deadline.wrapping_sub(clock);
@@ -44,9 +37,7 @@ fn underflows(entity: Entity, clock: u64) -> bool
 }
 
 /// The answer of a wake whose test says that there is too much, or not.
-fn wake_for(entity: Entity, clock: u64, is_too_much: bool) -> Wake
-    ensures { result ≡ wake_for entity clock is_too_much }
-{
+fn wake_for(entity: Entity, clock: u64, is_too_much: bool) -> Wake {
     if is_before(entity.budget.deadline, clock) {
         return Wake::Renewed;
     }
@@ -61,9 +52,7 @@ fn wake_for(entity: Entity, clock: u64, is_too_much: bool) -> Wake
     }
 }
 
-fn not_revised(wake: Wake) -> Wake
-    ensures { result ≡ not_revised wake }
-{
+fn not_revised(wake: Wake) -> Wake {
     match wake {
         Wake::Revised => Wake::Renewed,
         Wake::Kept => Wake::Kept,
@@ -72,9 +61,12 @@ fn not_revised(wake: Wake) -> Wake
 }
 
 /// What a wake does to this entity.
-pub(crate) fn changed_waking(change: RuleChange, law: ChargeLaw, entity: Entity, clock: u64) -> Wake
-    ensures { result ≡ waking_by change law entity clock }
-{
+pub(crate) fn changed_waking(
+    change: RuleChange,
+    law: ChargeLaw,
+    entity: Entity,
+    clock: u64,
+) -> Wake {
     match change {
         RuleChange::WakeTurned => wake_for(entity, clock, underflows(entity, clock)),
         RuleChange::WakeByPeriod => wake_for(
@@ -93,17 +85,13 @@ pub(crate) fn changed_waking(change: RuleChange, law: ChargeLaw, entity: Entity,
 }
 
 /// The entity after a wake that revises its budget by the bandwidth.
-fn revised_by_bandwidth(entity: Entity, clock: u64) -> Entity
-    ensures { result ≡ revised_by_bandwidth entity clock }
-{
+fn revised_by_bandwidth(entity: Entity, clock: u64) -> Entity {
     let by = woken(with_deadline_as_period(entity), clock, Wake::Revised);
     with_budget(entity, by.budget.runtime, by.budget.deadline)
 }
 
 /// The entity after such a wake.
-pub(crate) fn changed_woken(change: RuleChange, entity: Entity, clock: u64, wake: Wake) -> Entity
-    ensures { result ≡ woken_by change entity clock wake }
-{
+pub(crate) fn changed_woken(change: RuleChange, entity: Entity, clock: u64, wake: Wake) -> Entity {
     match change {
         RuleChange::WakeByBandwidth => match wake {
             Wake::Revised => revised_by_bandwidth(entity, clock),

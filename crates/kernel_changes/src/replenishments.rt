@@ -1,10 +1,7 @@
 //! A replenishment, with one rule changed.
 
-ghost use Rattle.std.specs.Prelude.{◌≡◌, None, if◌then◌else◌};
-ghost use Rattle.kernel_entity.specs.Budget.{left_of, ready_of};
+ghost use Rattle.std.specs.Prelude.{◌≡◌, None};
 ghost use Rattle.kernel_functions.specs.Timer.{replenish_fired_of};
-ghost use Rattle.kernel_changes.specs.Changes.{changed_replenish_firing, disarmed, replenish_firing_with, waits_blocked};
-ghost use Rattle.kernel_changes.specs.Reckoning.{found_by, recharged_once, replenished_once, with_budget};
 
 use crate::change::RuleChange;
 use kernel_entity::{Entity, is_before, recharges, renewed, served_by};
@@ -12,9 +9,7 @@ use kernel_functions::replenish_fired;
 use trace_data::Budget;
 
 /// The entity with another budget and deadline.
-pub(crate) fn with_budget(entity: Entity, runtime: i64, deadline: u64) -> Entity
-    ensures { result ≡ with_budget runtime deadline entity }
-{
+pub(crate) fn with_budget(entity: Entity, runtime: i64, deadline: u64) -> Entity {
     Entity {
         budget: Budget {
             runtime,
@@ -26,9 +21,7 @@ pub(crate) fn with_budget(entity: Entity, runtime: i64, deadline: u64) -> Entity
 }
 
 /// The entity with this taken for what is left of its budget.
-pub(crate) fn with_left(change: RuleChange, entity: Entity) -> Entity
-    ensures { result ≡ found_by change entity }
-{
+pub(crate) fn with_left(change: RuleChange, entity: Entity) -> Entity {
     let budget = entity.budget;
     match change {
         RuleChange::BudgetSet => {
@@ -56,9 +49,7 @@ pub(crate) fn with_left(change: RuleChange, entity: Entity) -> Entity
 }
 
 /// What of the budget is left: a yield gives up all of it.
-fn left(entity: Entity) -> i64
-    ensures { result ≡ left_of entity }
-{
+fn left(entity: Entity) -> i64 {
     if entity.budget.is_yielded && entity.budget.runtime > 0 {
         0
     } else {
@@ -67,9 +58,7 @@ fn left(entity: Entity) -> i64
 }
 
 /// The entity with one runtime and one period more, where its budget is used up or given up.
-pub(crate) fn recharged_once(entity: Entity) -> Entity
-    ensures { result ≡ recharged_once entity }
-{
+pub(crate) fn recharged_once(entity: Entity) -> Entity {
     let serving = served_by(entity);
     let budget = left(entity);
     let times = recharges(budget, serving.dl_runtime).min(1);
@@ -88,9 +77,7 @@ pub(crate) fn recharged_once(entity: Entity) -> Entity
 }
 
 /// The entity neither throttled nor yielded.
-fn ready(entity: Entity) -> Entity
-    ensures { result ≡ ready_of entity }
-{
+fn ready(entity: Entity) -> Entity {
     Entity {
         budget: Budget {
             is_throttled: false,
@@ -102,9 +89,7 @@ fn ready(entity: Entity) -> Entity
 }
 
 /// The entity after a replenishment of one period at this clock.
-pub(crate) fn replenished_once(entity: Entity, clock: u64) -> Entity
-    ensures { result ≡ replenished_once entity clock }
-{
+pub(crate) fn replenished_once(entity: Entity, clock: u64) -> Entity {
     let recharged = recharged_once(entity);
     if is_before(recharged.budget.deadline, clock) {
         ready(renewed(recharged, clock))
@@ -114,16 +99,12 @@ pub(crate) fn replenished_once(entity: Entity, clock: u64) -> Entity
 }
 
 /// Whether the timer of the replenishment finds it blocked.
-fn is_blocked(entity: Entity) -> bool
-    ensures { result ≡ waits_blocked entity }
-{
+fn is_blocked(entity: Entity) -> bool {
     entity.is_in_class && entity.budget.is_throttled && !entity.is_queued && entity.donor.is_none()
 }
 
 /// The entity whose timer of the replenishment is no more armed.
-fn disarmed(entity: Entity) -> Entity
-    ensures { result ≡ disarmed entity }
-{
+fn disarmed(entity: Entity) -> Entity {
     Entity {
         has_deadline_timer: false,
         ..entity
@@ -131,9 +112,7 @@ fn disarmed(entity: Entity) -> Entity
 }
 
 /// What the timer of a replenishment finds.
-fn found(change: RuleChange, entity: Entity) -> Entity
-    ensures { result ≡ (if waits_blocked entity then found_by change entity else entity) }
-{
+fn found(change: RuleChange, entity: Entity) -> Entity {
     if is_blocked(entity) {
         with_left(change, entity)
     } else {
@@ -141,9 +120,7 @@ fn found(change: RuleChange, entity: Entity) -> Entity
     }
 }
 
-fn changed_fired(change: RuleChange, entity: Entity) -> Entity
-    ensures { result ≡ changed_replenish_firing change entity }
-{
+fn changed_fired(change: RuleChange, entity: Entity) -> Entity {
     match change {
         RuleChange::BudgetSet => replenish_fired(found(RuleChange::BudgetSet, entity)),
         RuleChange::YieldKeeps => replenish_fired(found(RuleChange::YieldKeeps, entity)),
@@ -172,9 +149,7 @@ fn changed_fired(change: RuleChange, entity: Entity) -> Entity
 }
 
 /// The entity after its timer of the replenishment fired.
-#[tactic(auto, unfolding(crate::specs::Changes::replenish_firing_with))]
 pub fn replenish_fired_by(change: Option<RuleChange>, entity: Entity) -> Entity
-    ensures value { result ≡ replenish_firing_with change entity }
     ensures unchanged { change ≡ None → result ≡ replenish_fired_of entity }
 {
     match change {

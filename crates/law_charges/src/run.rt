@@ -1,12 +1,5 @@
 //! Runs: which time is charged.
 
-ghost use Rattle.std.specs.Prelude.{◌≡◌, ◌≢◌, IsTrue, OnOk, false, true, unwrap_or};
-ghost use Rattle.law_findings.specs.declared.words.Law.TheVariants.{Run as OfRun};
-ghost use Rattle.law_findings.specs.Judged.{broken_in, held_in};
-ghost use Rattle.law_charges.specs.inside.Runs.{is_first_of, put_on_at, run_broken};
-ghost use Rattle.law_findings.specs.Run.{BeginsAtSwitch};
-ghost use Rattle.law_findings.specs.declared.words.Finding.TheVariants.{NotAtSwitch, NotCharged};
-
 use law_findings::{
     Breach, Finding, JudgedLaws, Law, LineKind, ReadLine, Whose, begins_at_switch, is_apart,
     nanos_of,
@@ -236,12 +229,7 @@ impl Runs {
 }
 
 /// Two charges of one run.
-fn judge_gap(judged: &mut JudgedLaws, early: Early) -> Result<(), AllocError>
-    ensures kept { early.ends ≡ early.begins
-        → OnOk result (judged.new.tallies ≡ held_in judged.old OfRun) }
-    ensures gap { early.ends ≢ early.begins → OnOk result (judged.new.tallies
-        ≡ broken_in judged.old (run_broken early.read early.pid (NotCharged early.ends early.begins))) }
-{
+fn judge_gap(judged: &mut JudgedLaws, early: Early) -> Result<(), AllocError> {
     let Early {
         read,
         pid,
@@ -258,17 +246,7 @@ fn judge_gap(judged: &mut JudgedLaws, early: Early) -> Result<(), AllocError>
 }
 
 /// The first charge of a run.
-fn judge_first(judged: &mut JudgedLaws, charge: Charge, switch: Switch) -> Result<(), AllocError>
-    ensures other { is_first_of charge.pid charge.before switch ≡ false
-        → OnOk result (judged.new.tallies ≡ judged.old.tallies) }
-    ensures kept { is_first_of charge.pid charge.before switch ≡ true
-        → BeginsAtSwitch (unwrap_or switch.clock charge.begins) charge.begins (put_on_at switch charge.lag)
-        → OnOk result (judged.new.tallies ≡ held_in judged.old OfRun) }
-    ensures broken { is_first_of charge.pid charge.before switch ≡ true
-        → (BeginsAtSwitch (unwrap_or switch.clock charge.begins) charge.begins (put_on_at switch charge.lag) → ⊥)
-        → OnOk result (judged.new.tallies ≡ broken_in judged.old
-        (run_broken charge.read charge.pid (NotAtSwitch (put_on_at switch charge.lag) charge.begins))) }
-{
+fn judge_first(judged: &mut JudgedLaws, charge: Charge, switch: Switch) -> Result<(), AllocError> {
     let Charge {
         read,
         pid,
@@ -301,12 +279,7 @@ fn judge_run(
     pid: u64,
     is_right: bool,
     finding: Finding,
-) -> Result<(), AllocError>
-    ensures kept { IsTrue is_right
-        → OnOk result (judged.new.tallies ≡ held_in judged.old OfRun) }
-    ensures broken { is_right ≡ false
-        → OnOk result (judged.new.tallies ≡ broken_in judged.old (run_broken read pid finding)) }
-{
+) -> Result<(), AllocError> {
     if is_right {
         judged.holds(Law::Run);
         return Ok(());

@@ -1,13 +1,5 @@
 //! Servers: what fair servers are charged, and stop with.
 
-ghost use Rattle.std.specs.Prelude.{◌≡◌, ◌≢◌, IsTrue, OnOk, false, true, slice_index_or};
-ghost use Rattle.law_findings.specs.declared.words.Law.TheVariants.{Server as OfServer};
-ghost use Rattle.law_findings.specs.Judged.{OnlyTells, broken_in, held_in, held_twice};
-ghost use Rattle.law_charges.specs.inside.Runs.{server_broken, unknown_server};
-ghost use Rattle.law_findings.specs.Budget.{IsWithin};
-ghost use Rattle.law_findings.specs.Server.{IsLowered, IsNear, left_by};
-ghost use Rattle.law_findings.specs.declared.words.Finding.TheVariants.{OtherCharge};
-
 use law_findings::{
     Breach, Finding, JudgedLaws, Law, LineKind, ReadLine, ServerStart, Whose, is_lowered, is_near,
     is_taken_once, is_within, left, nanos_of,
@@ -84,9 +76,7 @@ impl Servers {
         Ok(self.servers.get_mut(cpu as usize))
     }
 
-    fn of(&self, cpu: u32) -> Server
-        ensures { result ≡ slice_index_or self.now.servers.items cpu unknown_server }
-    {
+    fn of(&self, cpu: u32) -> Server {
         self.servers.get(cpu as usize).copied().unwrap_or(NEW)
     }
 
@@ -236,11 +226,7 @@ fn judge_reservation(
     read: ReadLine,
     shown: ShownServer,
     reservation: ServerReservation,
-) -> Result<(), AllocError>
-    ensures { IsWithin shown.budget reservation.dl_runtime
-        → IsNear shown.deadline shown.clock reservation.dl_runtime reservation.dl_period
-        → OnOk result (judged.new.tallies ≡ held_twice judged.old OfServer) }
-{
+) -> Result<(), AllocError> {
     let ServerReservation {
         dl_runtime,
         dl_period,
@@ -264,14 +250,7 @@ fn judge_reservation(
 }
 
 /// Whether a charge has left this budget, or a start behind it.
-fn is_what_is_left(shown: ShownServer, charge: ServerCharge, start: Option<ServerStart>) -> bool
-    ensures left { shown.budget ≡ left_by charge.is_idle charge.budget charge.nanos → result ≡ true }
-    ensures lowered { IsLowered start shown.deadline (left_by charge.is_idle charge.budget charge.nanos)
-        shown.budget → result ≡ true }
-    ensures neither { shown.budget ≢ left_by charge.is_idle charge.budget charge.nanos
-        → ¬ IsLowered start shown.deadline (left_by charge.is_idle charge.budget charge.nanos) shown.budget
-        → result ≡ false }
-{
+fn is_what_is_left(shown: ShownServer, charge: ServerCharge, start: Option<ServerStart>) -> bool {
     if is_taken_once(charge.budget, charge.nanos, charge.is_idle, shown.budget) {
         return true;
     }
@@ -286,16 +265,7 @@ fn judge_charge(
     shown: ShownServer,
     charge: ServerCharge,
     start: Option<ServerStart>,
-) -> Result<(), AllocError>
-    ensures kept { shown.budget ≡ left_by charge.is_idle charge.budget charge.nanos
-        → OnOk result (judged.new.tallies ≡ held_in judged.old OfServer) }
-    ensures lowered { IsLowered start shown.deadline (left_by charge.is_idle charge.budget charge.nanos)
-        shown.budget → OnOk result (judged.new.tallies ≡ held_in judged.old OfServer) }
-    ensures broken { shown.budget ≢ left_by charge.is_idle charge.budget charge.nanos
-        → ¬ IsLowered start shown.deadline (left_by charge.is_idle charge.budget charge.nanos) shown.budget
-        → OnOk result (judged.new.tallies ≡ broken_in judged.old (server_broken read shown
-        (OtherCharge charge.nanos charge.budget shown.budget))) }
-{
+) -> Result<(), AllocError> {
     let is_right = is_what_is_left(shown, charge, start);
     let other = Finding::OtherCharge {
         nanos: charge.nanos,
@@ -311,13 +281,7 @@ fn judge_server(
     shown: ShownServer,
     is_right: bool,
     finding: Finding,
-) -> Result<(), AllocError>
-    ensures kept { IsTrue is_right
-        → OnOk result (judged.new.tallies ≡ held_in judged.old OfServer) }
-    ensures broken { is_right ≡ false
-        → OnOk result (judged.new.tallies ≡ broken_in judged.old (server_broken read shown finding)) }
-    ensures only { OnlyTells judged.old judged.new }
-{
+) -> Result<(), AllocError> {
     if is_right {
         judged.holds(Law::Server);
         return Ok(());

@@ -1,14 +1,5 @@
 //! Budget: what a task runs and wakes with.
 
-ghost use Rattle.std.specs.Prelude.{◌≡◌, IfNone, IfSome, OnOk, Some, false, slice_get, true};
-ghost use Rattle.law_findings.specs.Budget.{HasBudget};
-ghost use Rattle.law_findings.specs.declared.words.Law.TheVariants.{Budget as OfBudget};
-ghost use Rattle.law_findings.specs.declared.words.LineKind.TheVariants.{Enqueue};
-ghost use Rattle.law_findings.specs.Judged.{broken_in, held_in};
-ghost use Rattle.law_play.specs.inside.Budgets.{no_budget};
-ghost use Rattle.law_play.specs.inside.Tasks.{has_own_budget, is_wake, with_line, with_runtime};
-ghost use Rattle.law_play.specs.inside.Lent.{changed_at};
-
 use crate::play::LawPlay;
 use crate::task::Task;
 use law_findings::{Breach, Finding, Law, LineKind, ReadLine, Whose, has_budget, is_within};
@@ -43,18 +34,7 @@ impl LawPlay {
         read: ReadLine,
         budget: Budget,
         flags: u64,
-    ) -> Result<(), AllocError>
-        ensures other { IfSome (slice_get self.old.tasks.all.items place)
-            (λ t. is_wake t budget flags ≡ false
-            → OnOk result (self.new.judged.tallies ≡ self.old.judged.tallies)) }
-        ensures kept { IfSome (slice_get self.old.tasks.all.items place)
-            (λ t. is_wake t budget flags ≡ true → HasBudget budget.runtime
-            → OnOk result (self.new.judged.tallies ≡ held_in self.old.judged OfBudget)) }
-        ensures broken { IfSome (slice_get self.old.tasks.all.items place)
-            (λ t. is_wake t budget flags ≡ true → (HasBudget budget.runtime → ⊥)
-            → OnOk result (self.new.judged.tallies
-            ≡ broken_in self.old.judged (no_budget read t.pid Enqueue budget.runtime))) }
-    {
+    ) -> Result<(), AllocError> {
         let Some(task) = self.budget_of(place, budget) else {
             return Ok(());
         };
@@ -110,12 +90,7 @@ impl LawPlay {
     }
 
     /// The task whose budget is its own, and which is not throttled.
-    fn budget_of(&self, place: usize, budget: Budget) -> Option<&Task>
-        ensures own { IfSome result (λ t. has_own_budget t.now.reservation budget ≡ true) }
-        ensures other { IfNone result (IfSome (slice_get self.now.tasks.all.items place)
-            (λ t. has_own_budget t.reservation budget ≡ false)) }
-        ensures task { IfSome result (λ t. slice_get self.now.tasks.all.items place ≡ Some t.now) }
-    {
+    fn budget_of(&self, place: usize, budget: Budget) -> Option<&Task> {
         let task = self.tasks.get(place)?;
         let reservation = task.reservation?;
         let is_own = !reservation.is_special() && !reservation.is_boosted;
@@ -127,10 +102,7 @@ impl LawPlay {
     }
 
     /// A line shows a deadline: the runtime that the task has under it, its own or that of the one that boosts it.
-    pub(crate) fn see_runtime(&mut self, place: usize, deadline: u64)
-        ensures { self.new.tasks.all.items
-            ≡ changed_at self.old.tasks.all.items place (with_runtime deadline) }
-    {
+    pub(crate) fn see_runtime(&mut self, place: usize, deadline: u64) {
         let Some(task) = self.tasks.get_mut(place) else {
             return;
         };
@@ -168,12 +140,7 @@ impl LawPlay {
         read: ReadLine,
         kind: LineKind,
         budget: i64,
-    ) -> Result<(), AllocError>
-        ensures kept { HasBudget budget
-            → OnOk result (self.new.judged.tallies ≡ held_in self.old.judged OfBudget) }
-        ensures broken { (HasBudget budget → ⊥)
-            → OnOk result (self.new.judged.tallies ≡ broken_in self.old.judged (no_budget read pid kind budget)) }
-    {
+    ) -> Result<(), AllocError> {
         if has_budget(budget) {
             self.judged.holds(Law::Budget);
             return Ok(());
@@ -188,10 +155,7 @@ impl LawPlay {
     }
 
     /// A task's line is the one before its next.
-    pub(crate) fn see_before(&mut self, place: usize, line: u64, kind: LineKind)
-        ensures { self.new.tasks.all.items
-            ≡ changed_at self.old.tasks.all.items place (with_line line kind) }
-    {
+    pub(crate) fn see_before(&mut self, place: usize, line: u64, kind: LineKind) {
         if let Some(task) = self.tasks.get_mut(place) {
             task.before = Some(Before {
                 line,

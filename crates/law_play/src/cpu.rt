@@ -1,12 +1,5 @@
 //! What the last lines of a CPU were.
 
-ghost use Rattle.std.specs.List.{list_any};
-ghost use Rattle.std.specs.Prelude.{◌≡◌, slice_get};
-ghost use Rattle.std.specs.Borrow.{sem};
-ghost use Rattle.std.specs.Option.{option_copied_mut};
-ghost use Rattle.law_play.specs.inside.Lent.{LendsCpu};
-ghost use Rattle.law_play.specs.inside.Cpus.{blocked_of, cpu_of, is_handling, is_recent};
-
 use crate::zero_lag::OpenBlock;
 use std::alloc::{AllocError, Global};
 
@@ -82,16 +75,12 @@ const NEW: Cpu = Cpu {
 
 impl Cpu {
     /// Whether the line with this number of its CPU stands among the last ones.
-    pub fn is_recent(&self, count: u64) -> bool
-        ensures { result ≡ is_recent self.now count }
-    {
+    pub fn is_recent(&self, count: u64) -> bool {
         self.count.saturating_sub(count) <= BEFORE
     }
 
     /// Whether the handler of the 0-lag timer of this task may run here.
-    fn handles(&self, pid: u64) -> bool
-        ensures { result ≡ is_handling pid self.now }
-    {
+    fn handles(&self, pid: u64) -> bool {
         match self.handled {
             Some(handled) => handled == pid,
             None => false,
@@ -99,9 +88,7 @@ impl Cpu {
     }
 
     /// The entity whose block arms a 0-lag timer at the present line.
-    pub fn blocked(&self) -> Option<Blocker>
-        ensures { result ≡ blocked_of self.now }
-    {
+    pub fn blocked(&self) -> Option<Blocker> {
         match self.blocker {
             Some(blocker) if self.is_recent(blocker.count) => Some(blocker),
             _ => None,
@@ -127,9 +114,7 @@ impl Cpus {
     }
 
     /// What is known of this CPU.
-    pub fn of(&self, cpu: u32) -> Cpu
-        ensures { result ≡ cpu_of self.now cpu }
-    {
+    pub fn of(&self, cpu: u32) -> Cpu {
         self.cpus.get(cpu as usize).copied().unwrap_or(NEW)
     }
 
@@ -143,16 +128,11 @@ impl Cpus {
     }
 
     /// Whether the handler of the 0-lag timer of this task may run: `hrtimer_active` is true then, so a block arms no timer.
-    pub fn handles(&self, pid: u64) -> bool
-        ensures { result ≡ list_any (is_handling pid) self.now.cpus.items }
-    {
+    pub fn handles(&self, pid: u64) -> bool {
         self.cpus.iter().any(|cpu| cpu.handles(pid))
     }
 
-    pub fn get_mut(&mut self, cpu: u32) -> Option<&mut Cpu>
-        ensures* lends { sem 𝓛 (LendsCpu self.entry cpu result) }
-        ensures value { option_copied_mut result ≡ slice_get self.old.cpus.items cpu }
-    {
+    pub fn get_mut(&mut self, cpu: u32) -> Option<&mut Cpu> {
         self.cpus.get_mut(cpu as usize)
     }
 

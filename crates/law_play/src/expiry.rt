@@ -1,13 +1,5 @@
 //! Expiry: replenishment timers that are armed.
 
-ghost use Rattle.std.specs.Prelude.{◌≡◌, IfNone, IfSome, OnOk, slice_get};
-ghost use Rattle.law_findings.specs.Expiry.{IsNextPeriod};
-ghost use Rattle.law_findings.specs.declared.words.Law.TheVariants.{Expiry as OfExpiry};
-ghost use Rattle.law_findings.specs.Judged.{broken_in, held_in};
-ghost use Rattle.law_play.specs.inside.Cpus.{cpu_of};
-ghost use Rattle.law_play.specs.inside.Timers.{candidate_of, expiry_by, has_fired, moment_of, other_moment, servers_perhaps, throttling_of};
-ghost use Rattle.law_play.specs.inside.Lent.{changed_at};
-
 use crate::cpu::Last;
 use crate::firing::standing_of;
 use crate::play::LawPlay;
@@ -72,10 +64,7 @@ impl LawPlay {
     }
 
     /// The task whose charge or enqueue stands right before, in the same call.
-    fn candidate(&self, timer: usize, read: ReadLine) -> Option<u64>
-        ensures { result ≡ candidate_of (slice_get self.now.timers.all.items timer)
-            (cpu_of self.now.cpus read.cpu) read.pid }
-    {
+    fn candidate(&self, timer: usize, read: ReadLine) -> Option<u64> {
         let cpu = self.cpus.of(read.cpu);
         let is_other = self.timers.get(timer)?.is_other;
         if is_other || cpu.pid != read.pid {
@@ -93,11 +82,7 @@ impl LawPlay {
     }
 
     /// A timer was armed that may be a server's.
-    #[tactic(auto, unfolding(crate::specs::inside::Timers::servers_perhaps))]
-    fn see_other(&mut self, timer: usize)
-        ensures { self.new.timers.all.items
-            ≡ changed_at self.old.timers.all.items timer servers_perhaps }
-    {
+    fn see_other(&mut self, timer: usize) {
         if let Some(timer) = self.timers.get_mut(timer) {
             timer.is_other = true;
         }
@@ -148,10 +133,7 @@ impl LawPlay {
     }
 
     /// What throttled a task, where that line is among the last ones of this CPU.
-    fn throttling_of(&self, task: usize, cpu: u32) -> Option<Throttling>
-        ensures { result ≡ throttling_of (slice_get self.now.tasks.all.items task)
-            (cpu_of self.now.cpus cpu) cpu }
-    {
+    fn throttling_of(&self, task: usize, cpu: u32) -> Option<Throttling> {
         let throttling = self.tasks.get(task)?.throttling?;
         let is_recent = self.cpus.of(cpu).is_recent(throttling.count);
         if throttling.cpu == cpu && is_recent {
@@ -225,10 +207,7 @@ impl LawPlay {
     }
 
     /// Whether a timer of which no line has shown whose it is fired since it was armed.
-    fn has_fired(&self, arming: Arming) -> bool
-        ensures { result
-            ≡ has_fired (slice_get self.now.timers.all.items arming.timer) arming.place.line }
-    {
+    fn has_fired(&self, arming: Arming) -> bool {
         match self.timers.get(arming.timer) {
             Some(timer) => timer
                 .unowned
@@ -255,14 +234,7 @@ impl LawPlay {
         }
     }
 
-    fn judge_expiry(&mut self, pid: u64, arming: Arming) -> Result<(), AllocError>
-        ensures unseen { IfNone arming.throttling
-            (OnOk result (self.new.judged.tallies ≡ self.old.judged.tallies)) }
-        ensures kept { IfSome arming.throttling (λ t. IsNextPeriod (expiry_by arming t)
-            → OnOk result (self.new.judged.tallies ≡ held_in self.old.judged OfExpiry)) }
-        ensures broken { IfSome arming.throttling (λ t. (IsNextPeriod (expiry_by arming t) → ⊥)
-            → OnOk result (self.new.judged.tallies ≡ broken_in self.old.judged (other_moment pid arming t))) }
-    {
+    fn judge_expiry(&mut self, pid: u64, arming: Arming) -> Result<(), AllocError> {
         let Some(throttling) = arming.throttling else {
             return Ok(());
         };
@@ -295,9 +267,7 @@ impl LawPlay {
 }
 
 /// The moment of a replenishment timer, which is always told as one.
-pub(crate) fn moment_of(expiry: ArmedFor) -> u64
-    ensures { result ≡ moment_of expiry }
-{
+pub(crate) fn moment_of(expiry: ArmedFor) -> u64 {
     match expiry {
         ArmedFor::At(moment) => moment.cast_unsigned(),
         ArmedFor::After(moment) => moment.cast_unsigned(),

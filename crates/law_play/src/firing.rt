@@ -1,14 +1,5 @@
 //! Firing: timers fire, at their moments, or are stopped.
 
-ghost use Rattle.std.specs.Prelude.{◌≡◌, ◌-◌, ◌++◌, ◌∷◌, [], IfNone, IfSome, IsTrue, OnOk, false, slice_get};
-ghost use Rattle.law_findings.specs.Firing.{IsAwakeLong, IsEarly};
-ghost use Rattle.law_findings.specs.declared.words.Law.TheVariants.{Firing as OfFiring};
-ghost use Rattle.law_findings.specs.Judged.{broken_in, held_in};
-ghost use Rattle.law_play.specs.inside.Timers.{armed_of, awake_by, disarmed, early_by, fired_unowned, never_fired, whose_of, zero_lag_moment};
-ghost use Rattle.law_play.specs.inside.Cpus.{cpu_of};
-ghost use Rattle.law_play.specs.inside.Lent.{changed_at};
-ghost use Rattle.law_play.specs.inside.Tasks.{standing_of, with_fired};
-
 use crate::cpu::FiringHere;
 use crate::play::LawPlay;
 use crate::states::{REPLENISH, RESTORE};
@@ -61,26 +52,12 @@ impl LawPlay {
         }
     }
 
-    #[tactic(auto, unfolding(crate::specs::inside::Timers::disarmed))]
-    fn take_armed(&mut self, place: usize) -> Option<ArmedTimer>
-        ensures armed { result ≡ armed_of (slice_get self.old.timers.all.items place) }
-        ensures timers { self.new.timers.all.items
-            ≡ changed_at self.old.timers.all.items place disarmed }
-        ensures tallies { self.new.judged.tallies ≡ self.old.judged.tallies }
-        ensures asked { self.new.judged.asked ≡ self.old.judged.asked }
-        ensures kernel { self.new.judged.kernel ≡ self.old.judged.kernel }
-    {
+    fn take_armed(&mut self, place: usize) -> Option<ArmedTimer> {
         self.timers.get_mut(place)?.armed.take()
     }
 
     /// A timer that has not fired: its task was seen to do what stops it.
-    fn judge_stopped(&mut self, armed: ArmedTimer, again: Option<u64>) -> Result<(), AllocError>
-        ensures nobody { IfNone armed.owner (OnOk result (self.new.judged.tallies ≡ self.old.judged.tallies)) }
-        ensures excused { IfSome armed.owner (λ pid. IsTrue armed.is_excused
-            → OnOk result (self.new.judged.tallies ≡ held_in self.old.judged OfFiring)) }
-        ensures missed { IfSome armed.owner (λ pid. armed.is_excused ≡ false
-            → OnOk result (self.new.judged.tallies ≡ broken_in self.old.judged (never_fired armed pid again))) }
-    {
+    fn judge_stopped(&mut self, armed: ArmedTimer, again: Option<u64>) -> Result<(), AllocError> {
         let Some(pid) = armed.owner else {
             return Ok(());
         };
@@ -174,11 +151,7 @@ impl LawPlay {
     }
 
     /// A timer fires of which no line has shown whose it is; it was armed at that line.
-    #[tactic(auto, unfolding(crate::specs::inside::Timers::fired_unowned))]
-    fn fire_unowned(&mut self, timer: usize, read: ReadLine, armed: u64)
-        ensures { self.new.timers.all.items ≡ changed_at self.old.timers.all.items timer
-            (fired_unowned armed read (cpu_of self.old.cpus read.cpu).count) }
-    {
+    fn fire_unowned(&mut self, timer: usize, read: ReadLine, armed: u64) {
         let count = self.cpus.of(read.cpu).count;
         if let Some(timer) = self.timers.get_mut(timer) {
             timer.unowned = Some(Unowned {
@@ -191,11 +164,7 @@ impl LawPlay {
     }
 
     /// The replenishment timer of a task fired at this line of a CPU.
-    #[tactic(auto, unfolding(crate::specs::inside::Tasks::with_fired))]
-    fn fire(&mut self, task: usize, line: u64, cpu: u32)
-        ensures { self.new.tasks.all.items ≡ changed_at self.old.tasks.all.items task
-            (with_fired line cpu (cpu_of self.old.cpus cpu).count) }
-    {
+    fn fire(&mut self, task: usize, line: u64, cpu: u32) {
         let count = self.cpus.of(cpu).count;
         if let Some(task) = self.tasks.get_mut(task) {
             task.is_armed = false;
@@ -242,14 +211,7 @@ impl LawPlay {
         line: LawLine,
         armed: ArmedTimer,
         address: u64,
-    ) -> Result<(), AllocError>
-        ensures in_time { (IsEarly armed.expiry line.at → ⊥)
-            → OnOk result (self.new.judged.tallies ≡ held_in self.old.judged OfFiring) }
-        ensures late { (IsEarly armed.expiry line.at → ⊥)
-            → OnOk result (self.new.late.items ≡ self.old.late.items ++ (line.at - armed.expiry) ∷ []) }
-        ensures early { IsEarly armed.expiry line.at
-            → OnOk result (self.new.judged.tallies ≡ broken_in self.old.judged (early_by line armed address)) }
-    {
+    ) -> Result<(), AllocError> {
         if is_early(armed.expiry, line.at) {
             return self.judged.breaks(Breach {
                 law: Law::Firing,
@@ -268,13 +230,12 @@ impl LawPlay {
         Ok(())
     }
 
-    fn judge_awake(&mut self, line: LawLine, armed: ArmedTimer, pid: u64) -> Result<(), AllocError>
-        ensures asleep { IfNone armed.woke (OnOk result (self.new.judged.tallies ≡ held_in self.old.judged OfFiring)) }
-        ensures short { IfSome armed.woke (λ w. (IsAwakeLong w.at armed.expiry line.at → ⊥)
-            → OnOk result (self.new.judged.tallies ≡ held_in self.old.judged OfFiring)) }
-        ensures long { IfSome armed.woke (λ w. IsAwakeLong w.at armed.expiry line.at
-            → OnOk result (self.new.judged.tallies ≡ broken_in self.old.judged (awake_by line pid w.line))) }
-    {
+    fn judge_awake(
+        &mut self,
+        line: LawLine,
+        armed: ArmedTimer,
+        pid: u64,
+    ) -> Result<(), AllocError> {
         match armed.woke {
             Some(woken) if is_awake_long(woken.at, armed.expiry, line.at) => self.judged.breaks(
                 Breach {
@@ -358,18 +319,14 @@ impl LawPlay {
     }
 }
 
-fn whose_of(owner: Option<u64>, timer: u64) -> Whose
-    ensures { result ≡ whose_of owner timer }
-{
+fn whose_of(owner: Option<u64>, timer: u64) -> Whose {
     match owner {
         Some(pid) => Whose::Task { pid },
         None => Whose::Timer { timer },
     }
 }
 
-pub(crate) fn standing_of(task: &Task) -> Standing
-    ensures { result ≡ standing_of task.now }
-{
+pub(crate) fn standing_of(task: &Task) -> Standing {
     if task.is_away {
         Standing::Away
     } else if task.is_queued {
@@ -380,9 +337,7 @@ pub(crate) fn standing_of(task: &Task) -> Standing
 }
 
 /// When a 0-lag timer that is armed at this moment is to fire.
-fn zero_lag_moment(at: u64, expiry: Expiry) -> u64
-    ensures { result ≡ zero_lag_moment at expiry }
-{
+fn zero_lag_moment(at: u64, expiry: Expiry) -> u64 {
     match expiry {
         Expiry::After(span) => at.wrapping_add(span.cast_unsigned()),
         Expiry::At(moment) => moment.cast_unsigned(),

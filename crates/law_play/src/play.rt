@@ -1,8 +1,5 @@
 //! The lines of a record are taken one by one.
 
-ghost use Rattle.std.specs.Prelude.{◌≡◌};
-ghost use Rattle.law_play.specs.inside.Lines.{is_of_admission, is_of_call};
-
 use crate::cpu::{Blocker, Cpus, Last};
 use crate::task::{Tasks, Waiting};
 use crate::timer::Timers;
@@ -274,16 +271,12 @@ impl LawPlay {
 }
 
 /// Whether a line may stand in the call of the line before: a charge within a dequeue, or a timer that is armed.
-fn is_of_call(probe: &Probe) -> bool
-    ensures { result ≡ is_of_call probe.now }
-{
+fn is_of_call(probe: &Probe) -> bool {
     matches!(probe, Probe::Updated(_) | Probe::Armed(_))
 }
 
 /// Whether a line may stand in the call of an admission.
-fn is_of_admission(probe: &Probe) -> bool
-    ensures { result ≡ is_of_admission probe.now }
-{
+fn is_of_admission(probe: &Probe) -> bool {
     matches!(
         probe,
         Probe::Updated(_) | Probe::Armed(_) | Probe::Dequeued(_) | Probe::Enqueued(_)

@@ -1,9 +1,5 @@
 //! Progress: whatever throttles a task arms its replenishment timer.
 
-ghost use Rattle.std.specs.Prelude.{◌≡◌, OnOk, slice_get};
-ghost use Rattle.law_play.specs.inside.Tasks.{is_governors_task};
-ghost use Rattle.law_play.specs.inside.Throttled.{enqueue_judged, enqueue_shown, sign_by, task_shown};
-
 use crate::play::LawPlay;
 use crate::states::REPLENISH;
 use crate::task::Task;
@@ -47,10 +43,7 @@ impl LawPlay {
         &mut self,
         place: usize,
         is_throttled: bool,
-    ) -> Result<(), AllocError>
-        ensures { OnOk result (self.new.judged.tallies
-            ≡ task_shown self.old is_throttled (slice_get self.old.tasks.all.items place)) }
-    {
+    ) -> Result<(), AllocError> {
         let Some(task) = self.tasks.get_mut(place) else {
             return Ok(());
         };
@@ -86,10 +79,7 @@ impl LawPlay {
         read: ReadLine,
         line: &Enqueued,
         is_back: bool,
-    ) -> Result<(), AllocError>
-        ensures { OnOk result (self.new.judged.tallies ≡ enqueue_shown self.old read line.now is_back
-            (slice_get self.old.tasks.all.items place)) }
-    {
+    ) -> Result<(), AllocError> {
         let Some(task) = self.tasks.get_mut(place) else {
             return Ok(());
         };
@@ -108,9 +98,7 @@ impl LawPlay {
         self.judge_enqueue(&task, read)
     }
 
-    fn judge_enqueue(&mut self, task: &Task, read: ReadLine) -> Result<(), AllocError>
-        ensures { OnOk result (self.new.judged.tallies ≡ enqueue_judged self.old read task.now) }
-    {
+    fn judge_enqueue(&mut self, task: &Task, read: ReadLine) -> Result<(), AllocError> {
         let is_firing = match task.fired {
             Some(fired) => self.cpus.of(fired.cpu).count == fired.count,
             None => false,
@@ -139,9 +127,7 @@ impl LawPlay {
     }
 }
 
-fn is_special(task: &Task) -> bool
-    ensures { result ≡ is_governors_task task.now.reservation }
-{
+fn is_special(task: &Task) -> bool {
     match task.reservation {
         Some(reservation) => reservation.is_special(),
         None => false,
@@ -149,9 +135,7 @@ fn is_special(task: &Task) -> bool
 }
 
 /// By where the task stood as its timer fired in vain.
-fn sign_of(fired: Option<FiredTimer>) -> Option<Sign>
-    ensures { result ≡ sign_by fired }
-{
+fn sign_of(fired: Option<FiredTimer>) -> Option<Sign> {
     match fired?.standing {
         Standing::Away => Some(Sign::LeftThrottled),
         Standing::Blocked => Some(Sign::BoostEnded),

@@ -1,9 +1,5 @@
 //! Lines that show a task's state: enqueues, charges, dequeues, and the end of the class.
 
-ghost use Rattle.std.specs.Prelude.{◌≡◌, slice_get};
-ghost use Rattle.law_play.specs.inside.Cpus.{is_charged_leaving};
-ghost use Rattle.law_play.specs.inside.Tasks.{is_charged, is_reserved_task, wait_sign};
-
 use crate::cpu::Last;
 use crate::play::LawPlay;
 use crate::task::{Charge, Reservation, SUGOV, Task, Throttling};
@@ -264,9 +260,7 @@ impl LawPlay {
     }
 
     /// Whether a task has a share of the total.
-    fn has_reservation(&self, task: usize) -> bool
-        ensures { result ≡ is_reserved_task (slice_get self.now.tasks.all.items task) }
-    {
+    fn has_reservation(&self, task: usize) -> bool {
         match self.tasks.get(task) {
             Some(task) => task.reservation.is_some_and(|it| {
                 it.parameters.dl_runtime > 0 && it.parameters.flags & SUGOV == 0
@@ -283,9 +277,7 @@ impl LawPlay {
 }
 
 /// Whether a charge is of a task in the tree: it is queued, or this very dequeue takes it off, and it is not throttled.
-fn is_charged(task: &Task, line: &Updated, is_leaving: bool) -> bool
-    ensures { result ≡ is_charged task.now line.now is_leaving }
-{
+fn is_charged(task: &Task, line: &Updated, is_leaving: bool) -> bool {
     let Some(reservation) = task.reservation else {
         return false;
     };
@@ -298,9 +290,7 @@ fn is_charged(task: &Task, line: &Updated, is_leaving: bool) -> bool
 
 /// What the wait that begins at an enqueue has in common with a known fault: a boost replenishes a throttled task. Where the task is
 /// only saved and restored, that of its wait before.
-fn wait_sign(line: &Enqueued, before: Option<Sign>) -> Option<Sign>
-    ensures { result ≡ wait_sign line.now before }
-{
+fn wait_sign(line: &Enqueued, before: Option<Sign>) -> Option<Sign> {
     let is_boosted = line.entity != line.served_by;
     if is_boosted && line.budget.is_throttled && line.flags & REPLENISH != 0 {
         Some(Sign::BoostNotPicked)
@@ -311,10 +301,7 @@ fn wait_sign(line: &Enqueued, before: Option<Sign>) -> Option<Sign>
     }
 }
 
-fn queued_of(budget: Budget) -> Queued
-    ensures deadline { result.deadline ≡ budget.deadline }
-    ensures throttled { result.is_throttled ≡ budget.is_throttled }
-{
+fn queued_of(budget: Budget) -> Queued {
     Queued {
         deadline: budget.deadline,
         is_throttled: budget.is_throttled,
@@ -322,9 +309,7 @@ fn queued_of(budget: Budget) -> Queued
 }
 
 /// Whether the last line of a CPU is the charge within the dequeue of this task.
-fn is_charged_leaving(last: Last, pid: u64) -> bool
-    ensures { result ≡ is_charged_leaving last pid }
-{
+fn is_charged_leaving(last: Last, pid: u64) -> bool {
     match last {
         Last::Charged {
             pid: charged,

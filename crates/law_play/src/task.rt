@@ -1,11 +1,5 @@
 //! What lines have told of each task.
 
-ghost use Rattle.std.specs.Prelude.{◌≡◌, slice_get};
-ghost use Rattle.std.specs.Borrow.{sem};
-ghost use Rattle.std.specs.Option.{option_copied, option_copied_mut};
-ghost use Rattle.law_play.specs.inside.Lent.{LendsTask};
-ghost use Rattle.law_play.specs.inside.Tasks.{is_boosted_by, is_governors, new_task, reservation_by};
-
 use crate::budget::{Before, MostRuntime};
 use crate::zero_lag::OpenBlock;
 use law_findings::{FiredTimer, LawLine, Sign};
@@ -28,9 +22,7 @@ pub(crate) struct Reservation {
 }
 
 impl Reservation {
-    pub fn of(line: &Enqueued) -> Reservation
-        ensures { result ≡ reservation_by line.now }
-    {
+    pub fn of(line: &Enqueued) -> Reservation {
         Reservation {
             parameters: line.parameters,
             donor: line.donor,
@@ -39,9 +31,7 @@ impl Reservation {
         }
     }
 
-    pub fn is_special(&self) -> bool
-        ensures { result ≡ is_governors self.now }
-    {
+    pub fn is_special(&self) -> bool {
         self.parameters.flags & SUGOV != 0
     }
 }
@@ -133,9 +123,7 @@ pub(crate) struct Task {
 }
 
 impl Task {
-    fn new(pid: u64) -> Task
-        ensures { result ≡ new_task pid }
-    {
+    fn new(pid: u64) -> Task {
         Task {
             pid,
             reservation: None,
@@ -155,9 +143,7 @@ impl Task {
         }
     }
 
-    pub fn is_boosted(&self) -> bool
-        ensures { result ≡ is_boosted_by self.now.reservation }
-    {
+    pub fn is_boosted(&self) -> bool {
         self.reservation.is_some_and(|it| it.is_boosted)
     }
 }
@@ -204,16 +190,11 @@ impl Tasks {
         Ok(place)
     }
 
-    pub fn get(&self, place: usize) -> Option<&Task>
-        ensures { option_copied result ≡ slice_get self.now.all.items place }
-    {
+    pub fn get(&self, place: usize) -> Option<&Task> {
         self.all.get(place)
     }
 
-    pub fn get_mut(&mut self, place: usize) -> Option<&mut Task>
-        ensures* lends { sem 𝓛 (LendsTask self.entry place result) }
-        ensures value { option_copied_mut result ≡ slice_get self.old.all.items place }
-    {
+    pub fn get_mut(&mut self, place: usize) -> Option<&mut Task> {
         self.all.get_mut(place)
     }
 }

@@ -1,12 +1,5 @@
 //! The timers of a record, by their addresses.
 
-ghost use Rattle.std.specs.Prelude.{◌≡◌, IfNone, IfOk, IfSome, Ok, Some, nat_eq, slice_get};
-ghost use Rattle.std.specs.HashMap.{get};
-ghost use Rattle.std.specs.Borrow.{sem};
-ghost use Rattle.std.specs.Option.{option_copied, option_copied_mut};
-ghost use Rattle.law_play.specs.inside.Lent.{LendsTimer};
-ghost use Rattle.law_play.specs.inside.Timers.{new_timer};
-
 use law_findings::{LawLine, TimerKind};
 use std::alloc::{AllocError, Global};
 use std::collections::HashMap;
@@ -76,21 +69,12 @@ impl Timers {
     }
 
     /// Where the timer of this address stands, if a line has shown it.
-    pub fn find(&self, address: u64) -> Option<usize>
-        ensures { result ≡ get nat_eq self.now.places address }
-    {
+    pub fn find(&self, address: u64) -> Option<usize> {
         self.places.get(&address).copied()
     }
 
     /// Where the timer of this address stands, which is new where no line has shown it.
-    pub fn place(&mut self, address: u64) -> Result<usize, AllocError>
-        ensures known { IfSome (get nat_eq self.old.places address)
-            (λ place. result ≡ Ok place × self.new ≡ self.old) }
-        ensures unknown { IfNone (get nat_eq self.old.places address) (IfOk result (λ place.
-            slice_get self.new.all.items place ≡ Some (new_timer address))) }
-        ensures place { IfNone (get nat_eq self.old.places address)
-            (IfOk result (λ place. get nat_eq self.new.places address ≡ Some place)) }
-    {
+    pub fn place(&mut self, address: u64) -> Result<usize, AllocError> {
         if let Some(place) = self.find(address) {
             return Ok(place);
         }
@@ -106,16 +90,11 @@ impl Timers {
         Ok(place)
     }
 
-    pub fn get(&self, place: usize) -> Option<&Timer>
-        ensures { option_copied result ≡ slice_get self.now.all.items place }
-    {
+    pub fn get(&self, place: usize) -> Option<&Timer> {
         self.all.get(place)
     }
 
-    pub fn get_mut(&mut self, place: usize) -> Option<&mut Timer>
-        ensures* lends { sem 𝓛 (LendsTimer self.entry place result) }
-        ensures value { option_copied_mut result ≡ slice_get self.old.all.items place }
-    {
+    pub fn get_mut(&mut self, place: usize) -> Option<&mut Timer> {
         self.all.get_mut(place)
     }
 }

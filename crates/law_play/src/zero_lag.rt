@@ -1,12 +1,5 @@
 //! The 0-lag time: what a block arms.
 
-ghost use Rattle.std.specs.Prelude.{◌≡◌, ◌<◌, IfNone, IsTrue, None, OnOk, Some};
-ghost use Rattle.law_findings.specs.ZeroLag.{IsPast, IsWide};
-ghost use Rattle.law_findings.specs.declared.words.Law.TheVariants.{ZeroLag as OfZeroLag};
-ghost use Rattle.law_findings.specs.Judged.{held_in};
-ghost use Rattle.law_findings.specs.declared.known.Sign.TheVariants.{ProductWraps};
-ghost use Rattle.law_play.specs.inside.Blocks.{least_span, most_span, shown_with};
-
 use crate::cpu::Last;
 use crate::play::LawPlay;
 use crate::states::SLEEP;
@@ -54,9 +47,7 @@ pub(crate) struct OpenBlock {
 }
 
 impl OpenBlock {
-    fn with(&self, budget: i64, deadline: u64) -> Blocked
-        ensures { result ≡ shown_with self.now budget deadline }
-    {
+    fn with(&self, budget: i64, deadline: u64) -> Blocked {
         Blocked {
             budget,
             deadline,
@@ -309,12 +300,7 @@ impl LawPlay {
         block: &OpenBlock,
         least: Blocked,
         most: Blocked,
-    ) -> Result<(), AllocError>
-        ensures past { IfNone block.now.armed (0 < most.dl_runtime → IsPast most
-            → OnOk result (self.new.judged.tallies ≡ held_in self.old.judged OfZeroLag)) }
-        ensures handled { IfNone block.now.armed (IsTrue block.now.is_handled → (IsPast most → ⊥)
-            → OnOk result (self.new.judged.tallies ≡ self.old.judged.tallies)) }
-    {
+    ) -> Result<(), AllocError> {
         let whose = Whose::Task { pid };
         if let Some(armed) = block.armed {
             return self.judge_armed(whose, block, armed, least, most);
@@ -369,10 +355,7 @@ impl LawPlay {
 }
 
 /// Between which spans behind the block at this moment a timer is armed.
-fn spans_of(blocked_at: u64, armed: ArmedAt) -> (i64, i64)
-    ensures from { result.0 ≡ least_span armed.place.at armed.expiry }
-    ensures to { result.1 ≡ most_span blocked_at armed.expiry }
-{
+fn spans_of(blocked_at: u64, armed: ArmedAt) -> (i64, i64) {
     match armed.expiry {
         Expiry::After(span) => (span, span),
         Expiry::At(moment) => (
@@ -386,10 +369,7 @@ fn spans_of(blocked_at: u64, armed: ArmedAt) -> (i64, i64)
     }
 }
 
-fn sign_of(block: Blocked) -> Option<Sign>
-    ensures wraps { IsWide block → result ≡ Some ProductWraps }
-    ensures fits { (IsWide block → ⊥) → result ≡ None }
-{
+fn sign_of(block: Blocked) -> Option<Sign> {
     if block.has_wide_product() {
         Some(Sign::ProductWraps)
     } else {

@@ -1,9 +1,5 @@
 //! Tasks of the class that can run while their CPU runs a task of a lower class.
 
-ghost use Rattle.std.specs.Prelude.{◌≡◌, ◌+◌, ◌-◌, ◌^◌, ◌++◌, ◌∷◌, ◌≤◌, ◌<◌, [], OnOk, min};
-ghost use Rattle.law_findings.specs.Pick.{IsRunShort};
-ghost use Rattle.law_switches.specs.inside.Waits.{IsRestarted, has_servers, lower_run, lower_runs};
-
 use law_findings::{
     Breach, Finding, JudgedLaws, Law, LawLine, LowerRun, Sign, Whose, is_run_short, is_tick_counted,
 };
@@ -67,9 +63,7 @@ pub struct ReadyTasks {
 }
 
 /// Whether a kernel of this release has fair servers; one that is not known may have them.
-fn has_servers(kernel: Option<Kernel>) -> bool
-    ensures { result ≡ has_servers kernel }
-{
+fn has_servers(kernel: Option<Kernel>) -> bool {
     match kernel {
         Some(kernel) => kernel.major > 6 || kernel.major == 6 && kernel.minor >= 12,
         None => true,
@@ -78,9 +72,7 @@ fn has_servers(kernel: Option<Kernel>) -> bool
 
 impl ReadyTask {
     /// How long the lower class ran up to this moment while the task could run.
-    fn lower_run(&self, lower: LowerTask, at: u64) -> LowerRun
-        ensures { result ≡ lower_run self.now lower at }
-    {
+    fn lower_run(&self, lower: LowerTask, at: u64) -> LowerRun {
         LowerRun {
             nanos: at.saturating_sub(self.since.max(lower.at)),
             ticks: self.ticks,
@@ -89,10 +81,7 @@ impl ReadyTask {
 
     /// A timer that was armed at the first moment fires at the second one: a task that waits since then may have been throttled up
     /// to now.
-    fn restart(&mut self, armed_at: u64, at: u64)
-        ensures armed_before { armed_at ≤ self.old.from → IsRestarted self.old at self.new }
-        ensures armed_later { self.old.from < armed_at → self.new ≡ self.old }
-    {
+    fn restart(&mut self, armed_at: u64, at: u64) {
         if armed_at <= self.from {
             self.since = at;
             self.ticks = 0;
@@ -101,15 +90,7 @@ impl ReadyTask {
         }
     }
 
-    fn judge(&mut self, lower: LowerTask, place: LawLine) -> Result<(), AllocError>
-        ensures short { IsRunShort (lower_run self.old lower place.at)
-            → self.new.held ≡ min (self.old.held + 1) (2 ^ 64 - 1) }
-        ensures long { (IsRunShort (lower_run self.old lower place.at) → ⊥) → OnOk result
-            (self.new.long.items ≡ self.old.long.items
-            ++ lower_runs self.old lower place (lower_run self.old lower place.at) ∷ []) }
-        ensures unheld { (IsRunShort (lower_run self.old lower place.at) → ⊥)
-            → self.new.held ≡ self.old.held }
-    {
+    fn judge(&mut self, lower: LowerTask, place: LawLine) -> Result<(), AllocError> {
         let run = self.lower_run(lower, place.at);
         if is_run_short(run) {
             self.held = self.held.saturating_add(1);

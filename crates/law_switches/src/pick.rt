@@ -1,11 +1,5 @@
 //! Picks: which task is put on.
 
-ghost use Rattle.std.specs.Prelude.{◌≡◌, IsTrue, OnOk, false};
-ghost use Rattle.law_findings.specs.Pick.{IsPickRight};
-ghost use Rattle.law_findings.specs.declared.words.Law.TheVariants.{Pick as OfPick};
-ghost use Rattle.law_findings.specs.Judged.{broken_in, held_in};
-ghost use Rattle.law_switches.specs.inside.Waits.{later_deadline, put_on_throttled};
-
 use law_findings::{
     Breach, Finding, JudgedLaws, Law, LawLine, LineKind, Queued, ReadLine, Whose, is_pick_right,
 };
@@ -212,12 +206,7 @@ fn judge_put_on(
     place: LawLine,
     pid: u64,
     shown: Queued,
-) -> Result<(), AllocError>
-    ensures ready { shown.is_throttled ≡ false
-        → OnOk result (judged.new.tallies ≡ held_in judged.old OfPick) }
-    ensures throttled { IsTrue shown.is_throttled
-        → OnOk result (judged.new.tallies ≡ broken_in judged.old (put_on_throttled place pid)) }
-{
+) -> Result<(), AllocError> {
     if !shown.is_throttled {
         judged.holds(Law::Pick);
         return Ok(());
@@ -237,15 +226,7 @@ fn judge_pick(
     pid: u64,
     picked: Queued,
     other: Beside,
-) -> Result<(), AllocError>
-    ensures throttled { IsTrue other.shown.is_throttled
-        → OnOk result (judged.new.tallies ≡ judged.old.tallies) }
-    ensures right { other.shown.is_throttled ≡ false → IsPickRight picked other.shown
-        → OnOk result (judged.new.tallies ≡ held_in judged.old OfPick) }
-    ensures wrong { other.shown.is_throttled ≡ false → (IsPickRight picked other.shown → ⊥)
-        → OnOk result (judged.new.tallies
-        ≡ broken_in judged.old (later_deadline place pid picked other)) }
-{
+) -> Result<(), AllocError> {
     if other.shown.is_throttled {
         return Ok(());
     }

@@ -1,11 +1,5 @@
 //! Timers of the class: they fire, at their moments, or a line stops them.
 
-ghost use Rattle.std.specs.Prelude.{◌≡◌, ◌-◌, ◌++◌, ◌∷◌, [], OnOk};
-ghost use Rattle.law_findings.specs.Firing.{IsDue, IsEarly};
-ghost use Rattle.law_findings.specs.Judged.{broken_in, held_in};
-ghost use Rattle.law_findings.specs.declared.words.Law.TheVariants.{Firing};
-ghost use Rattle.law_timers.specs.inside.Timers.{fired_early, never_fired};
-
 use law_findings::{
     Breach, Finding, JudgedLaws, Law, LawLine, LineKind, ReadLine, TimerKind, Whose, is_due,
     is_early,
@@ -117,14 +111,7 @@ fn judge_fired(
     address: u64,
     read: ReadLine,
     now: u64,
-) -> Result<(), AllocError>
-    ensures in_time { (IsEarly armed.expiry now → ⊥)
-        → OnOk result (judged.new.tallies ≡ held_in judged.old Firing) }
-    ensures late { (IsEarly armed.expiry now → ⊥)
-        → OnOk result (late.new.items ≡ late.old.items ++ (now - armed.expiry) ∷ []) }
-    ensures early { IsEarly armed.expiry now → OnOk result (judged.new.tallies
-        ≡ broken_in judged.old (fired_early armed address read now)) }
-{
+) -> Result<(), AllocError> {
     if is_early(armed.expiry, now) {
         return judged.breaks(Breach {
             law: Law::Firing,
@@ -150,12 +137,7 @@ fn judge_unfired(
     address: u64,
     at: u64,
     again: Option<u64>,
-) -> Result<(), AllocError>
-    ensures missed { IsDue armed.expiry at → OnOk result (judged.new.tallies
-        ≡ broken_in judged.old (never_fired armed address again)) }
-    ensures not_due { (IsDue armed.expiry at → ⊥)
-        → OnOk result (judged.new.tallies ≡ judged.old.tallies) }
-{
+) -> Result<(), AllocError> {
     if !is_due(armed.expiry, at) {
         return Ok(());
     }

@@ -1,8 +1,5 @@
 //! What each task has of the total, and what a lock may leave open.
 
-ghost use Rattle.std.specs.Prelude.{◌≡◌, ◌+◌, ◌^◌, ◌-◌, None, max, min, slice_index_or, true};
-ghost use Rattle.law_total.specs.inside.Shares.{no_share};
-
 use std::alloc::{AllocError, Global};
 use trace_data::Parameters;
 
@@ -114,9 +111,7 @@ impl Total {
         Ok(self.shares.get_mut(task))
     }
 
-    pub(crate) fn of(&self, task: usize) -> Share
-        ensures { result ≡ slice_index_or self.now.shares.items task no_share }
-    {
+    pub(crate) fn of(&self, task: usize) -> Share {
         self.shares.get(task).copied().unwrap_or(NEW)
     }
 
@@ -147,13 +142,7 @@ impl Total {
     }
 
     /// What is known of total_bw begins anew at this moment.
-    pub fn restart(&mut self, at: u64)
-        ensures base { self.new.base ≡ None }
-        ensures asleep { self.new.asleep ≡ 0 }
-        ensures open_until { self.new.open_until
-            ≡ max self.old.open_until (min (at + 100000000) (2 ^ 64 - 1)) }
-        ensures has_marks { self.new.has_marks ≡ true }
-    {
+    pub fn restart(&mut self, at: u64) {
         self.base = None;
         self.asleep = 0;
         self.open_until = self.open_until.max(at.saturating_add(LONG));
@@ -161,9 +150,7 @@ impl Total {
     }
 
     /// There are several root domains: no line says which one total_bw is of.
-    pub fn part(&mut self)
-        ensures { self.new.open_until ≡ 2 ^ 64 - 1 }
-    {
+    pub fn part(&mut self) {
         self.open_until = u64::MAX;
     }
 

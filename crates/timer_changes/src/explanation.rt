@@ -1,9 +1,5 @@
 //! Which one changed rule explains what timers show.
 
-ghost use Rattle.std.specs.Prelude.{◌≡◌, ◌++◌, codes, not, IfOk, IsTrue, OnOk};
-ghost use Rattle.std.specs.List.{list_any};
-ghost use Rattle.timer_changes.specs.Told.{EndsWith, Grows, NamesLast, explains_by, is_any_named, is_guess_by};
-
 use probe_verdict::{Trial, change_name, explains, is_guess};
 use std::alloc::{AllocError, Global};
 
@@ -14,13 +10,7 @@ pub fn put_explanation(
     out: &mut Vec<u8>,
     differ: u64,
     trials: &[Trial],
-) -> Result<(), AllocError>
-    ensures grows { Grows out.old.items out.new.items }
-    ensures none { IsTrue (not (is_any_named differ trials.now)) → OnOk result
-        (out.new.items ≡ out.old.items ++ codes "  no one changed rule explains it\n") }
-    ensures named { IsTrue (is_any_named differ trials.now) → OnOk result
-        (NamesLast out.new.items) }
-{
+) -> Result<(), AllocError> {
     let is_explained = put_explaining(alloc, out, differ, trials)?;
     let is_guessed = put_guesses(alloc, out, differ, trials)?;
     if is_explained || is_guessed {
@@ -36,12 +26,7 @@ fn put_explaining(
     out: &mut Vec<u8>,
     differ: u64,
     trials: &[Trial],
-) -> Result<bool, AllocError>
-    ensures grows { Grows out.old.items out.new.items }
-    ensures named { IfOk result (λ named. named ≡ list_any (explains_by differ) trials.now) }
-    ensures none { IfOk result (λ named. IsTrue (not named) → out.new.items ≡ out.old.items) }
-    ensures last { IfOk result (λ named. IsTrue named → NamesLast out.new.items) }
-{
+) -> Result<bool, AllocError> {
     let mut is_named = false;
     for trial in trials {
         if explains(differ == 0, trial.agrees) {
@@ -52,10 +37,7 @@ fn put_explaining(
     Ok(is_named)
 }
 
-fn put_cause(alloc: Global, out: &mut Vec<u8>, trial: Trial) -> Result<(), AllocError>
-    ensures grows { Grows out.old.items out.new.items }
-    ensures last { OnOk result (EndsWith (codes "\": the kernel agrees\n") out.new.items) }
-{
+fn put_cause(alloc: Global, out: &mut Vec<u8>, trial: Trial) -> Result<(), AllocError> {
     let name = change_name(trial.change);
     let text = format!(in alloc; "  with one rule changed, \"{name}\": the kernel agrees\n")?;
     out.extend_from_slice(text.as_bytes())?;
@@ -68,12 +50,7 @@ fn put_guesses(
     out: &mut Vec<u8>,
     differ: u64,
     trials: &[Trial],
-) -> Result<bool, AllocError>
-    ensures grows { Grows out.old.items out.new.items }
-    ensures named { IfOk result (λ named. named ≡ list_any (is_guess_by differ) trials.now) }
-    ensures none { IfOk result (λ named. IsTrue (not named) → out.new.items ≡ out.old.items) }
-    ensures last { IfOk result (λ named. IsTrue named → NamesLast out.new.items) }
-{
+) -> Result<bool, AllocError> {
     let mut is_named = false;
     for trial in trials {
         if is_guess(differ, trial.differ) {
@@ -84,10 +61,7 @@ fn put_guesses(
     Ok(is_named)
 }
 
-fn put_guess(alloc: Global, out: &mut Vec<u8>, trial: Trial) -> Result<(), AllocError>
-    ensures grows { Grows out.old.items out.new.items }
-    ensures last { OnOk result (EndsWith (codes " still differ\n") out.new.items) }
-{
+fn put_guess(alloc: Global, out: &mut Vec<u8>, trial: Trial) -> Result<(), AllocError> {
     let name = change_name(trial.change);
     let differ = trial.differ;
     let text = format!(in alloc;

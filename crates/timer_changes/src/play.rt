@@ -1,16 +1,5 @@
 //! A record, played with one rule changed.
 
-ghost use Rattle.std.specs.Prelude.{◌≡◌, ◌≢◌, ℕ, ℤ, not, nat_eq, IsTrue, Some, None, OnOk, count_by, drop, slice_get};
-ghost use Rattle.std.specs.HashMap.{get};
-ghost use Rattle.timer_play.specs.Events.{step_in};
-ghost use Rattle.timer_play.specs.Playing.{left_after};
-ghost use Rattle.timer_play.specs.States.{owner_at, state_of};
-ghost use Rattle.timer_play.specs.Turns.{runs_of, wakes_of};
-ghost use Rattle.timer_changes.specs.Changed.{block_difference_by};
-ghost use Rattle.timer_changes.specs.Played.{GoesOn, differs_by, firing_by, moving_by, quieted, refilled_at_once, running_by, running_on, served_on, starting_by, switching_by, taking_after, taking_by, told_until_by, waking_on};
-ghost use Rattle.timer_tasks.specs.declared.observation.ObservedAnswer.{ObservedAnswer};
-ghost use Rattle.timer_tasks.specs.Observations.{block_answer_of};
-
 use crate::rules::{
     block_difference, fired_by, moved_by, ran_by, refilled_by, start_answer, woken_by,
 };
@@ -41,22 +30,16 @@ pub(crate) struct Play {
     pub answers: HashMap<u64, ObservedAnswer>,
 }
 
-fn runs(task: DeadlineTask) -> bool
-    ensures { result ≡ runs_of task }
-{
+fn runs(task: DeadlineTask) -> bool {
     task.entity.is_in_class && is_awake(task.activity)
 }
 
-fn wakes(task: DeadlineTask) -> bool
-    ensures { result ≡ wakes_of task }
-{
+fn wakes(task: DeadlineTask) -> bool {
     task.entity.is_in_class && !is_awake(task.activity)
 }
 
 /// A line that says nothing of a task or a timer.
-fn quiet(kept: KeptLine) -> KeptLine
-    ensures { result ≡ quieted kept }
-{
+fn quiet(kept: KeptLine) -> KeptLine {
     KeptLine {
         event: KeptEvent::Idles,
         ..kept
@@ -64,9 +47,7 @@ fn quiet(kept: KeptLine) -> KeptLine
 }
 
 /// Whether a timer differs, by the answer of the changed rule where that gives one.
-fn differs(answers: &HashMap<u64, ObservedAnswer>, observation: &Observation) -> bool
-    ensures { result ≡ differs_by answers.now observation.now }
-{
+fn differs(answers: &HashMap<u64, ObservedAnswer>, observation: &Observation) -> bool {
     let answer = match answers.get(&observation.line) {
         Some(answer) => *answer,
         None => observation.answer,
@@ -75,19 +56,12 @@ fn differs(answers: &HashMap<u64, ObservedAnswer>, observation: &Observation) ->
 }
 
 impl Play {
-    fn law(&self) -> ChargeLaw
-        ensures { result ≡ self.now.setup.law }
-    {
+    fn law(&self) -> ChargeLaw {
         self.setup.law
     }
 
     /// Tells the notes from a place on whose moments have come; the place after them.
-    fn tell_until(&mut self, told: &[TaskNote], come: usize, at: u64) -> usize
-        ensures state { state_of self.new.machine ≡ told_until_by self.old.change
-            self.old.setup.cpus at (drop come told.now) (state_of self.old.machine) }
-        ensures rest { drop result told.now ≡ left_after at (drop come told.now) }
-        ensures kept { self.new ≡ record self.old { machine = self.new.machine } }
-    {
+    fn tell_until(&mut self, told: &[TaskNote], come: usize, at: u64) -> usize {
         for i in come..told.len() {
             let note = told[i];
             if note.moment > at {
@@ -102,9 +76,7 @@ impl Play {
     }
 
     /// Plays each line, after the notes whose moments have come.
-    pub fn play_lines(&mut self, lines: &KeptLines) -> Result<(), AllocError>
-        ensures { GoesOn self.old self.new }
-    {
+    pub fn play_lines(&mut self, lines: &KeptLines) -> Result<(), AllocError> {
         let mut come = 0usize;
         for kept in &lines.kept {
             come = self.tell_until(&lines.told, come, kept.at);
@@ -114,9 +86,7 @@ impl Play {
     }
 
     /// How many timers differ.
-    pub fn differ(self) -> u64
-        ensures { result ≡ count_by (differs_by self.answers) (state_of self.machine).seen }
-    {
+    pub fn differ(self) -> u64 {
         let Play {
             change: _,
             setup: _,
@@ -133,9 +103,7 @@ impl Play {
             .count() as u64
     }
 
-    fn step(&mut self, lines: &KeptLines, kept: KeptLine) -> Result<(), AllocError>
-        ensures { GoesOn self.old self.new }
-    {
+    fn step(&mut self, lines: &KeptLines, kept: KeptLine) -> Result<(), AllocError> {
         let kept = self.served(kept);
         match kept.event {
             KeptEvent::Ran { task, nanos } => self.run(lines, kept, task, nanos),
@@ -164,11 +132,7 @@ impl Play {
     }
 
     /// A line as it is for fair servers that never leave `running_bw`, where that is the change.
-    fn served(&self, kept: KeptLine) -> KeptLine
-        ensures other { self.now.change ≢ RuleChange.ServerRunsOn → result ≡ kept }
-        ensures changed { self.now.change ≡ RuleChange.ServerRunsOn → result
-            ≡ served_on (state_of self.now.machine) kept }
-    {
+    fn served(&self, kept: KeptLine) -> KeptLine {
         if self.change != RuleChange::ServerRunsOn {
             return kept;
         }
@@ -201,12 +165,12 @@ impl Play {
     }
 
     /// A line about a task that may give its bandwidth back.
-    fn step_of(&mut self, lines: &KeptLines, kept: KeptLine, number: u32) -> Result<(), AllocError>
-        ensures machine { OnOk result (state_of self.new.machine ≡ taking_after self.old.change number
-            self.old.setup.cpus (state_of self.old.machine)
-            (step_in lines.now.tasks.items kept (state_of self.old.machine))) }
-        ensures rest { self.new ≡ record self.old { machine = self.new.machine } }
-    {
+    fn step_of(
+        &mut self,
+        lines: &KeptLines,
+        kept: KeptLine,
+        number: u32,
+    ) -> Result<(), AllocError> {
         let before = self.machine.task(number);
         let taken = self.machine.taken();
         self.machine.step(lines, kept)?;
@@ -215,12 +179,7 @@ impl Play {
     }
 
     /// What a task takes from `extra_bw`, by the changed rule: it took so much before a line or a note.
-    fn keep_taken(&mut self, number: u32, before: Option<DeadlineTask>, taken: u64)
-        ensures taken { state_of self.new.machine ≡ taking_by self.old.change before
-            (slice_get (state_of self.old.machine).tasks number) self.old.setup.cpus taken
-            (state_of self.old.machine) }
-        ensures rest { self.new ≡ record self.old { machine = self.new.machine } }
-    {
+    fn keep_taken(&mut self, number: u32, before: Option<DeadlineTask>, taken: u64) {
         let (Some(before), Some(after)) = (before, self.machine.task(number)) else {
             return;
         };
@@ -241,20 +200,13 @@ impl Play {
     }
 
     /// A task is charged.
-    #[tactic(auto, unfolding(timer_play::specs::Turns::at_run_of))]
     fn run(
         &mut self,
         lines: &KeptLines,
         kept: KeptLine,
         number: u32,
         nanos: u64,
-    ) -> Result<(), AllocError>
-        ensures charge { OnOk result
-            (let m = step_in lines.now.tasks.items (quieted kept) (state_of self.old.machine) in
-            state_of self.new.machine ≡ running_by self.old.change self.old.setup.law
-            (slice_get m.tasks number) kept number nanos m) }
-        ensures rest { GoesOn self.old self.new }
-    {
+    ) -> Result<(), AllocError> {
         self.machine.step(lines, quiet(kept))?;
         let Some(task) = self.machine.task(number) else {
             return Ok(());
@@ -272,9 +224,7 @@ impl Play {
     }
 
     /// A task that runs on, after a budget that was used up is filled at once.
-    fn refilled(&self, task: DeadlineTask) -> DeadlineTask
-        ensures { result ≡ refilled_at_once self.now.change self.now.setup.law task }
-    {
+    fn refilled(&self, task: DeadlineTask) -> DeadlineTask {
         if has_timer_ahead(task.entity, task.exceeded.unwrap_or(0)) {
             task
         } else {
@@ -289,14 +239,7 @@ impl Play {
         kept: KeptLine,
         number: u32,
         clock: u64,
-    ) -> Result<(), AllocError>
-        ensures woken { OnOk result (let m = step_in lines.now.tasks.items kept
-            (state_of self.old.machine) in state_of self.new.machine
-            ≡ waking_on self.old.change self.old.setup.law self.old.begins
-            (slice_get (state_of self.old.machine).tasks number) (slice_get m.tasks number)
-            number clock m) }
-        ensures rest { GoesOn self.old self.new }
-    {
+    ) -> Result<(), AllocError> {
         let before = self.machine.task(number);
         self.machine.step(lines, kept)?;
         let (Some(before), Some(after)) = (before, self.machine.task(number)) else {
@@ -311,17 +254,12 @@ impl Play {
     }
 
     /// A task moves to another CPU.
-    fn migrate(&mut self, lines: &KeptLines, kept: KeptLine, number: u32) -> Result<(), AllocError>
-        ensures other { self.old.change ≢ RuleChange.MoveWakes → OnOk result
-            (state_of self.new.machine
-            ≡ step_in lines.now.tasks.items kept (state_of self.old.machine)) }
-        ensures changed { self.old.change ≡ RuleChange.MoveWakes → OnOk result
-            (let m = step_in lines.now.tasks.items kept (state_of self.old.machine) in
-            state_of self.new.machine ≡ moving_by self.old.setup.law
-            (slice_get (state_of self.old.machine).tasks number) (slice_get m.tasks number)
-            number kept.at m) }
-        ensures rest { GoesOn self.old self.new }
-    {
+    fn migrate(
+        &mut self,
+        lines: &KeptLines,
+        kept: KeptLine,
+        number: u32,
+    ) -> Result<(), AllocError> {
         let before = self.machine.task(number);
         self.machine.step(lines, kept)?;
         let (Some(before), Some(after)) = (before, self.machine.task(number)) else {
@@ -341,13 +279,7 @@ impl Play {
         kept: KeptLine,
         number: u32,
         stop: Stop,
-    ) -> Result<(), AllocError>
-        ensures machine { OnOk result (state_of self.new.machine ≡ switching_by
-            (slice_get (state_of self.old.machine).tasks number) self.old.change
-            self.old.setup.law self.old.setup.cpus lines.now.tasks.items kept number stop
-            (state_of self.old.machine)) }
-        ensures rest { GoesOn self.old self.new }
-    {
+    ) -> Result<(), AllocError> {
         let Some(task) = self.machine.task(number) else {
             return self.machine.step(lines, kept);
         };
@@ -367,15 +299,7 @@ impl Play {
         kept: KeptLine,
         task: DeadlineTask,
         stop: Stop,
-    ) -> Result<(), AllocError>
-        ensures other { block_difference_by self.old.change task kept.at ≡ None
-            → self.new ≡ self.old }
-        ensures answer { OnOk result ((d : ℤ)
-            → block_difference_by self.old.change task kept.at ≡ Some d
-            → get nat_eq self.new.answers kept.line
-            ≡ Some (block_answer_of task stop d self.old.within)) }
-        ensures rest { self.new ≡ record self.old { answers = self.new.answers } }
-    {
+    ) -> Result<(), AllocError> {
         let Some(difference) = block_difference(self.change, task, kept.at) else {
             return Ok(());
         };
@@ -385,11 +309,7 @@ impl Play {
     }
 
     /// A task that blocks after its 0-lag time leaves `running_bw` as it is, where that is the change.
-    fn run_on(&mut self, number: u32, before: DeadlineTask, after: DeadlineTask, stop: Stop)
-        ensures machine { state_of self.new.machine
-            ≡ running_on self.old.change number before after stop (state_of self.old.machine) }
-        ensures rest { self.new ≡ record self.old { machine = self.new.machine } }
-    {
+    fn run_on(&mut self, number: u32, before: DeadlineTask, after: DeadlineTask, stop: Stop) {
         if self.change == RuleChange::PastRunsOn
             && runs(before)
             && matches!(stop, Stop::Blocks)
@@ -412,17 +332,7 @@ impl Play {
         kept: KeptLine,
         timer: u32,
         expires: u64,
-    ) -> Result<(), AllocError>
-        ensures machine { OnOk result (state_of self.new.machine
-            ≡ step_in lines.now.tasks.items kept (state_of self.old.machine)) }
-        ensures other { self.old.change ≢ RuleChange.UntilDeadline → self.new.answers
-            ≡ self.old.answers }
-        ensures answer { OnOk result ((a : ObservedAnswer)
-            → starting_by self.old.change (owner_at timer (state_of self.new.machine))
-            (state_of self.new.machine) kept.at expires self.old.within ≡ Some a
-            → get nat_eq self.new.answers kept.line ≡ Some a) }
-        ensures rest { GoesOn self.old self.new }
-    {
+    ) -> Result<(), AllocError> {
         self.machine.step(lines, kept)?;
         let Owner::Task(number) = self.machine.owner(timer) else {
             return Ok(());
@@ -437,14 +347,7 @@ impl Play {
     }
 
     /// `dl_task_timer` fires.
-    #[tactic(auto, unfolding(timer_play::specs::Events::edited))]
-    fn fire(&mut self, lines: &KeptLines, kept: KeptLine, timer: u32) -> Result<(), AllocError>
-        ensures machine { OnOk result (state_of self.new.machine
-            ≡ firing_by self.old.change self.old.setup.law
-            (owner_at timer (state_of self.old.machine)) lines.now.tasks.items kept
-            (state_of self.old.machine)) }
-        ensures rest { GoesOn self.old self.new }
-    {
+    fn fire(&mut self, lines: &KeptLines, kept: KeptLine, timer: u32) -> Result<(), AllocError> {
         let Owner::Task(number) = self.machine.owner(timer) else {
             return self.machine.step(lines, kept);
         };

@@ -1,9 +1,5 @@
 //! What a line of a record does to a task, with one rule changed.
 
-ghost use Rattle.std.specs.Prelude.{◌≡◌, Some};
-ghost use Rattle.kernel_changes.specs.Charges.{cost_with};
-ghost use Rattle.timer_changes.specs.Changed.{block_difference_by, blocks_by, charged_with, enqueued_with, fired_with, line_by, moved_as_wake, refilled_with, replenishing_with, start_answer_by, waits_by, waking_with, with_period_of, with_wait_of};
-
 use kernel_changes::{RuleChange, cost_by, enqueue_by};
 use kernel_entity::{
     ChargeLaw, ChargedRunqueue, Entity, QUEUED, REPLENISH, WAKEUP, charged, replenished, waking,
@@ -19,9 +15,7 @@ use trace_data::{Budget, Donor, Enqueued, Parameters, Sums};
 const OWN: u64 = 1;
 
 /// The entity is enqueued by itself with these ENQUEUE_ flags.
-fn line_of(entity: Entity, flags: u64, clock: u64) -> Enqueued
-    ensures { result ≡ line_by entity flags clock }
-{
+fn line_of(entity: Entity, flags: u64, clock: u64) -> Enqueued {
     Enqueued {
         pid: 0,
         cpu: 0,
@@ -48,10 +42,7 @@ fn line_of(entity: Entity, flags: u64, clock: u64) -> Enqueued
 }
 
 /// The entity with another budget, after an enqueue with these flags.
-#[tactic(auto, unfolding(crate::specs::Changed::enqueued_with))]
-fn enqueued(change: RuleChange, law: ChargeLaw, entity: Entity, flags: u64, clock: u64) -> Entity
-    ensures { result ≡ enqueued_with change law entity flags clock }
-{
+fn enqueued(change: RuleChange, law: ChargeLaw, entity: Entity, flags: u64, clock: u64) -> Entity {
     let done = enqueue_by(Some(change), law, entity, line_of(entity, flags, clock));
     Entity {
         budget: done.entity.budget,
@@ -67,9 +58,7 @@ pub(crate) fn woken_by(
     after: DeadlineTask,
     did: Waking,
     clock: u64,
-) -> DeadlineTask
-    ensures { result ≡ waking_with change law before after did clock }
-{
+) -> DeadlineTask {
     if is_tested(did) {
         DeadlineTask {
             entity: enqueued(change, law, before.entity, WAKEUP, clock),
@@ -81,9 +70,7 @@ pub(crate) fn woken_by(
 }
 
 /// The task after a move to another CPU, which is a wake.
-pub(crate) fn moved_by(law: ChargeLaw, task: DeadlineTask, at: u64) -> DeadlineTask
-    ensures { result ≡ moved_as_wake law task at }
-{
+pub(crate) fn moved_by(law: ChargeLaw, task: DeadlineTask, at: u64) -> DeadlineTask {
     if task.entity.is_in_class && is_awake(task.activity) && !task.entity.budget.is_throttled {
         let wake = waking(law, task.entity, at);
         DeadlineTask {
@@ -96,9 +83,7 @@ pub(crate) fn moved_by(law: ChargeLaw, task: DeadlineTask, at: u64) -> DeadlineT
 }
 
 /// The entity after a replenishment at this moment.
-fn replenished_by(change: RuleChange, law: ChargeLaw, entity: Entity, at: u64) -> Entity
-    ensures { result ≡ replenishing_with change law entity at }
-{
+fn replenished_by(change: RuleChange, law: ChargeLaw, entity: Entity, at: u64) -> Entity {
     match change {
         RuleChange::BudgetSet => enqueued(RuleChange::BudgetSet, law, entity, REPLENISH, at),
         RuleChange::OnePeriod => enqueued(RuleChange::OnePeriod, law, entity, REPLENISH, at),
@@ -113,9 +98,7 @@ pub(crate) fn fired_by(
     law: ChargeLaw,
     task: DeadlineTask,
     at: u64,
-) -> DeadlineTask
-    ensures { result ≡ fired_with change law task at }
-{
+) -> DeadlineTask {
     DeadlineTask {
         entity: if task.entity.budget.is_throttled {
             replenished_by(change, law, task.entity, at)
@@ -127,9 +110,7 @@ pub(crate) fn fired_by(
 }
 
 /// The task after a budget that was used up is filled at once, since no timer was started for it.
-pub(crate) fn refilled_by(change: RuleChange, law: ChargeLaw, task: DeadlineTask) -> DeadlineTask
-    ensures { result ≡ refilled_with change law task }
-{
+pub(crate) fn refilled_by(change: RuleChange, law: ChargeLaw, task: DeadlineTask) -> DeadlineTask {
     DeadlineTask {
         entity: if refills(task) {
             replenished_by(change, law, task.entity, task.exceeded.unwrap_or(0))
@@ -142,9 +123,7 @@ pub(crate) fn refilled_by(change: RuleChange, law: ChargeLaw, task: DeadlineTask
 }
 
 /// The task after a charge at this moment that takes this from its budget.
-fn spent(task: DeadlineTask, at: u64, cost: u64) -> DeadlineTask
-    ensures { result ≡ charged_with task at cost }
-{
+fn spent(task: DeadlineTask, at: u64, cost: u64) -> DeadlineTask {
     let after = DeadlineTask {
         entity: charged(task.entity, cost),
         ..task
@@ -167,9 +146,7 @@ pub(crate) fn ran_by(
     at: u64,
     nanos: u64,
     runqueue: ChargedRunqueue,
-) -> DeadlineTask
-    ensures { result ≡ charged_with task at (cost_with (Some change) law task.entity runqueue nanos) }
-{
+) -> DeadlineTask {
     spent(
         task,
         at,
@@ -177,9 +154,7 @@ pub(crate) fn ran_by(
     )
 }
 
-fn with_period(task: DeadlineTask, dl_period: u64) -> DeadlineTask
-    ensures { result ≡ with_period_of task dl_period }
-{
+fn with_period(task: DeadlineTask, dl_period: u64) -> DeadlineTask {
     DeadlineTask {
         entity: Entity {
             parameters: Parameters {
@@ -193,9 +168,7 @@ fn with_period(task: DeadlineTask, dl_period: u64) -> DeadlineTask
 }
 
 /// The task whose 0-lag time, from its last charge on, is so many hundredths of what it is; at a block of this moment.
-fn with_wait(task: DeadlineTask, at: u64, hundredths: i64) -> DeadlineTask
-    ensures { result ≡ with_wait_of task at hundredths }
-{
+fn with_wait(task: DeadlineTask, at: u64, hundredths: i64) -> DeadlineTask {
     let wait = zero_lag(task.entity, task.charged.unwrap_or(at));
     let other = wait.wrapping_mul(hundredths).div_euclid(100);
     let deadline = task
@@ -216,9 +189,7 @@ fn with_wait(task: DeadlineTask, at: u64, hundredths: i64) -> DeadlineTask
 }
 
 /// The task by which the 0-lag time of a block at this moment is reckoned; none where the rule of blocks is not changed.
-fn blocks_as(change: RuleChange, task: DeadlineTask, at: u64) -> Option<DeadlineTask>
-    ensures { result ≡ blocks_by change task at }
-{
+fn blocks_as(change: RuleChange, task: DeadlineTask, at: u64) -> Option<DeadlineTask> {
     match change {
         RuleChange::ZeroLagByDeadline => {
             Some(with_period(task, task.entity.parameters.dl_deadline))
@@ -230,9 +201,7 @@ fn blocks_as(change: RuleChange, task: DeadlineTask, at: u64) -> Option<Deadline
 }
 
 /// How far the 0-lag time of a block at this moment is from the kernel's, where the changed rule gives it.
-pub(crate) fn block_difference(change: RuleChange, task: DeadlineTask, at: u64) -> Option<i64>
-    ensures { result ≡ block_difference_by change task at }
-{
+pub(crate) fn block_difference(change: RuleChange, task: DeadlineTask, at: u64) -> Option<i64> {
     if change == RuleChange::ZeroLagNever {
         return Some(if task.armed.is_some() { i64::MAX } else { 0 });
     }
@@ -241,9 +210,7 @@ pub(crate) fn block_difference(change: RuleChange, task: DeadlineTask, at: u64) 
 }
 
 /// The task by which the moment of a replenishment timer is reckoned; none where that rule is not changed.
-fn waits_as(change: RuleChange, task: DeadlineTask) -> Option<DeadlineTask>
-    ensures { result ≡ waits_by change task }
-{
+fn waits_as(change: RuleChange, task: DeadlineTask) -> Option<DeadlineTask> {
     match change {
         RuleChange::UntilDeadline => Some(with_period(task, task.entity.parameters.dl_deadline)),
         _ => None,
@@ -257,9 +224,7 @@ pub(crate) fn start_answer(
     at: u64,
     expires: u64,
     within: u64,
-) -> Option<ObservedAnswer>
-    ensures { result ≡ start_answer_by change task at expires within }
-{
+) -> Option<ObservedAnswer> {
     let other = waits_as(change, task)?;
     let moments = replenish_moments(other, at, expires);
     Some(answer_of(task.knowledge, moments.difference, within))

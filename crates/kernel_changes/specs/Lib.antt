@@ -1,4 +1,0 @@
-pub mod Charges
-pub mod Reckoning
-pub mod Changes
-pub mod Others
