@@ -1,10 +1,5 @@
 //! When a task was on a runqueue, and in which state.
 
-ghost use Rattle.std.specs.Prelude.{◌≡◌, ◌++◌, IfOk, OnOk};
-ghost use Rattle.std.specs.List.{list_any};
-ghost use Rattle.grub_picture.specs.Bars.{bars_of, is_seen, is_state, is_still, postponed, state_at, state_on};
-ghost use Rattle.grub_picture.specs.inside.Begun.{begun_after, ended_bar, last_bar, opened_bar};
-
 use grub_book::{Place, Reply, State};
 use grub_plan::Answer;
 use grub_steps::{Change, Step};
@@ -20,9 +15,7 @@ struct Begun {
 
 /// The bars of a task on runqueue `r` up to the end of a picture, by the task's own steps. Neighbours of one state are
 /// one bar. It is refused where the allocator refused.
-pub fn bars_of(alloc: Global, r: u32, own: &[Step], frame: Frame) -> Result<Vec<Bar>, AllocError>
-    ensures { IfOk result (λ v. v.items ≡ bars_of r frame.to own.now) }
-{
+pub fn bars_of(alloc: Global, r: u32, own: &[Step], frame: Frame) -> Result<Vec<Bar>, AllocError> {
     let mut bars = Vec::new(alloc);
     let mut current: Option<Begun> = None;
     for x in own {
@@ -40,9 +33,7 @@ fn push_ended(
     current: Option<Begun>,
     next: Option<State>,
     m: u32,
-) -> Result<(), AllocError>
-    ensures { OnOk result (bars.new.items ≡ bars.old.items ++ ended_bar current next m) }
-{
+) -> Result<(), AllocError> {
     let Some(Begun { state, from }) = current else {
         return Ok(());
     };
@@ -54,9 +45,7 @@ fn push_ended(
 }
 
 /// Ends the last bar.
-fn push_last(bars: &mut Vec<Bar>, current: Option<Begun>, end: u32) -> Result<(), AllocError>
-    ensures { OnOk result (bars.new.items ≡ bars.old.items ++ last_bar current end) }
-{
+fn push_last(bars: &mut Vec<Bar>, current: Option<Begun>, end: u32) -> Result<(), AllocError> {
     if let Some(Begun { state, from }) = current {
         bars.push(Bar {
             state,
@@ -68,9 +57,7 @@ fn push_last(bars: &mut Vec<Bar>, current: Option<Begun>, end: u32) -> Result<()
 }
 
 /// The bar that goes on or begins where the task comes to a state.
-fn begun_after(current: Option<Begun>, next: Option<State>, m: u32) -> Option<Begun>
-    ensures { result ≡ begun_after current next m }
-{
+fn begun_after(current: Option<Begun>, next: Option<State>, m: u32) -> Option<Begun> {
     match current {
         Some(begun) => {
             if is_still(begun.state, next) {
@@ -83,27 +70,21 @@ fn begun_after(current: Option<Begun>, next: Option<State>, m: u32) -> Option<Be
     }
 }
 
-fn opened(state: Option<State>, m: u32) -> Option<Begun>
-    ensures { result ≡ opened_bar state m }
-{
+fn opened(state: Option<State>, m: u32) -> Option<Begun> {
     Some(Begun {
         state: state?,
         from: m,
     })
 }
 
-fn is_still(state: State, next: Option<State>) -> bool
-    ensures { result ≡ is_still state next }
-{
+fn is_still(state: State, next: Option<State>) -> bool {
     match next {
         Some(now) => is_state(state, now),
         None => false,
     }
 }
 
-fn is_state(a: State, b: State) -> bool
-    ensures { result ≡ is_state a b }
-{
+fn is_state(a: State, b: State) -> bool {
     match a {
         State::Contending => match b {
             State::Contending => true,
@@ -121,15 +102,11 @@ fn is_state(a: State, b: State) -> bool
 }
 
 /// The state of a task on runqueue `r` after a step of its own.
-fn state_on(r: u32, change: Option<Change>) -> Option<State>
-    ensures { result ≡ state_on r change }
-{
+fn state_on(r: u32, change: Option<Change>) -> Option<State> {
     state_at(r, change?.place)
 }
 
-fn state_at(r: u32, place: Place) -> Option<State>
-    ensures { result ≡ state_at r place }
-{
+fn state_at(r: u32, place: Place) -> Option<State> {
     match place {
         Place::On(s, state) => { if s == r { Some(state) } else { None } }
         Place::Away | Place::Gone => None,
@@ -137,9 +114,7 @@ fn state_at(r: u32, place: Place) -> Option<State>
 }
 
 /// Whether one of the bars lies in the span of a picture, if only in part.
-pub(crate) fn are_seen(frame: Frame, bars: &[Bar]) -> bool
-    ensures { result ≡ list_any (is_seen frame) bars.now }
-{
+pub(crate) fn are_seen(frame: Frame, bars: &[Bar]) -> bool {
     for bar in bars {
         if is_seen(frame, *bar) {
             return true;
@@ -148,16 +123,12 @@ pub(crate) fn are_seen(frame: Frame, bars: &[Bar]) -> bool
     false
 }
 
-fn is_seen(frame: Frame, bar: Bar) -> bool
-    ensures { result ≡ is_seen frame bar }
-{
+fn is_seen(frame: Frame, bar: Bar) -> bool {
     bar.from <= frame.to && frame.from <= bar.to
 }
 
 /// The deadline that a step of runqueue `r` postponed to.
-pub(crate) fn postponed(r: u32, x: &Step) -> Option<u32>
-    ensures { result ≡ postponed r x.now }
-{
+pub(crate) fn postponed(r: u32, x: &Step) -> Option<u32> {
     if x.queue != r {
         return None;
     }

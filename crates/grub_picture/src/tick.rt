@@ -1,8 +1,5 @@
 //! The ticks of a lane: where deadlines were postponed.
 
-ghost use Rattle.std.specs.Prelude.{◌≡◌, IfOk};
-ghost use Rattle.grub_picture.specs.Lanes.{is_tick, tick_of, ticks_of};
-
 use crate::bars::postponed;
 use grub_steps::Step;
 use std::alloc::{AllocError, Global};
@@ -23,9 +20,12 @@ pub struct Tick {
 
 /// The ticks of a task on runqueue `r`, by the task's own steps: one where its deadline was postponed in the span, and one
 /// a column at most. It is refused where the allocator refused.
-pub fn ticks_of(alloc: Global, frame: Frame, r: u32, own: &[Step]) -> Result<Vec<Tick>, AllocError>
-    ensures { IfOk result (λ v. v.items ≡ ticks_of frame r 0 own.now) }
-{
+pub fn ticks_of(
+    alloc: Global,
+    frame: Frame,
+    r: u32,
+    own: &[Step],
+) -> Result<Vec<Tick>, AllocError> {
     let mut ticks = Vec::new(alloc);
     let mut last = 0;
     for step in own {
@@ -38,9 +38,7 @@ pub fn ticks_of(alloc: Global, frame: Frame, r: u32, own: &[Step]) -> Result<Vec
     Ok(ticks)
 }
 
-fn tick_of(frame: Frame, r: u32, step: &Step) -> Tick
-    ensures { result ≡ tick_of frame r step.now }
-{
+fn tick_of(frame: Frame, r: u32, step: &Step) -> Tick {
     let m = step.told.entry.m;
     Tick {
         x: frame.x(u64::from(m)),
@@ -50,9 +48,7 @@ fn tick_of(frame: Frame, r: u32, step: &Step) -> Tick
 }
 
 /// Whether a step of runqueue `r` postponed a deadline in the span.
-fn is_tick(frame: Frame, r: u32, step: &Step) -> bool
-    ensures { result ≡ is_tick frame r step.now }
-{
+fn is_tick(frame: Frame, r: u32, step: &Step) -> bool {
     postponed(r, step).is_some() && frame.is_in(step.told.entry.m)
 }
 

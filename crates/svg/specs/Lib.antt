@@ -1,3 +1,1 @@
-pub mod Frames
-pub mod Shapes
 pub mod inside

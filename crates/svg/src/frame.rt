@@ -1,7 +1,6 @@
 //! Where moments and bandwidths lie in a picture.
 
 ghost use Rattle.std.specs.Prelude.{◌≡◌, ◌<◌, ◌^◌};
-ghost use Rattle.svg.specs.Frames.{height_of, is_in, x_of};
 ghost use Rattle.svg.specs.inside.Axis.{first_multiple, multiples};
 
 use grub_bw::BW_UNIT;
@@ -30,9 +29,7 @@ pub struct Frame {
 
 impl Frame {
     /// Where a moment lies, to whole units. What is outside of the span lies at its ends.
-    #[tactic(auto, unfolding(crate::specs::Frames::x_of))]
     pub fn x(self, m: u64) -> u64
-        ensures value { result ≡ x_of self m }
         ensures most { result < 2 ^ 60 }
     {
         let span = u64::from(self.to.saturating_sub(self.from)).max(1);
@@ -45,16 +42,13 @@ impl Frame {
 
     /// Where the span ends.
     pub fn right(self) -> u64
-        ensures value { result ≡ x_of self self.to }
         ensures most { result < 2 ^ 60 }
     {
         self.x(u64::from(self.to))
     }
 
     /// Whether a moment is in the span.
-    pub fn is_in(self, m: u32) -> bool
-        ensures { result ≡ is_in self m }
-    {
+    pub fn is_in(self, m: u32) -> bool {
         self.from <= m && m <= self.to
     }
 
@@ -92,9 +86,6 @@ const MARK_STEPS: [u32; 28] = [
 ];
 
 /// How high a bandwidth is drawn.
-#[tactic(auto, unfolding(crate::specs::Frames::height_of))]
-pub fn height_of(bandwidth: u32) -> u64
-    ensures { result ≡ height_of bandwidth }
-{
+pub fn height_of(bandwidth: u32) -> u64 {
     u64::from(bandwidth) * CURVE / u64::from(BW_UNIT)
 }

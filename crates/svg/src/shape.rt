@@ -1,8 +1,5 @@
 //! The bars of a lane: where their rectangles stand, and what they tell.
 
-ghost use Rattle.std.specs.Prelude.{◌≡◌};
-ghost use Rattle.svg.specs.Shapes.{rect_of};
-
 use crate::frame::Frame;
 use crate::text::{put_number, put_text};
 use grub_book::State;
@@ -33,9 +30,7 @@ pub struct Rect {
 }
 
 /// The rectangle of a bar, from where its first moment lies to its last; none where it is less than a unit wide.
-pub fn rect_of(frame: Frame, bar: Bar) -> Option<Rect>
-    ensures { result ≡ rect_of frame bar }
-{
+pub fn rect_of(frame: Frame, bar: Bar) -> Option<Rect> {
     let x = frame.x(u64::from(bar.from));
     let width = frame.x(u64::from(bar.to)).saturating_sub(x);
     if width == 0 {

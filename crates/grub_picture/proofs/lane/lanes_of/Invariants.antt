@@ -1,6 +1,8 @@
-use Rattle.std.proofs.Common.{◌≡◌, map}
-use Rattle.grub_picture.specs.Lanes.{lanes_of}
+use Rattle.std.proofs.Common.{◌<◌, ◌≤◌, All, length}
 use Rattle.grub_picture.proofs.lane.lanes_of.Given as goal
 
 abbrev pub invariant-loop-t : goal.invariant-loop-t
-invariant-loop-t l = l.lanes.items ≡ lanes_of l.frame l.r (map (λ own. own.items) l.owns) l.t
+invariant-loop-t l = record {
+  within : All (λ t. t < l.tasks) l.lanes.items;
+  most : length l.lanes.items ≤ l.t;
+}

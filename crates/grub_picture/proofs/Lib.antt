@@ -1,3 +1,0 @@
-pub mod Barring
-pub mod Lanes
-pub mod Layouts
