@@ -95,13 +95,6 @@ fn own_again(change: RuleChange, before: Entity, after: Entity) -> Entity {
     }
 }
 
-fn with_this(sums: SumsChange, bw: u64) -> SumsChange {
-    SumsChange {
-        this_bw: sums.this_bw.wrapping_add(bw),
-        ..sums
-    }
-}
-
 fn with_running(sums: SumsChange, bw: u64) -> SumsChange {
     SumsChange {
         running_bw: sums.running_bw.wrapping_add(bw),
@@ -123,19 +116,15 @@ pub(crate) fn moves(arrival: Arrival) -> bool {
     }
 }
 
-fn is_past(block: Option<Block>) -> bool {
-    match block {
-        Some(Block::Past) => true,
-        Some(Block::Unreserved | Block::ZeroLagTimer(_)) | None => false,
-    }
-}
-
 /// What a dequeue takes from the sums, where it leaves something in them.
 fn left_in_sums(change: RuleChange, entity: Entity, done: Dequeuing) -> SumsChange {
     match change {
         RuleChange::MoveLeavesThis => {
             if moves(done.departure) {
-                with_this(done.change, entity.dl_bw)
+                SumsChange {
+                    this_bw: done.change.this_bw.wrapping_add(entity.dl_bw),
+                    ..done.change
+                }
             } else {
                 done.change
             }
@@ -148,7 +137,7 @@ fn left_in_sums(change: RuleChange, entity: Entity, done: Dequeuing) -> SumsChan
             }
         }
         RuleChange::PastRunsOn => {
-            if is_past(done.block) && (entity.is_server || entity.is_in_class) {
+            if matches!(done.block, Some(Block::Past)) && (entity.is_server || entity.is_in_class) {
                 with_running(done.change, entity.dl_bw)
             } else {
                 done.change
@@ -283,26 +272,11 @@ pub fn fired_by(change: Option<RuleChange>, entity: Entity) -> Fired
     }
 }
 
-/// Whether a task comes into the class, or back.
-fn enters(admission: Admission) -> bool {
-    match admission {
-        Admission::New | Admission::Back => true,
-        Admission::Other | Admission::Refused | Admission::Same | Admission::Changed => false,
-    }
-}
-
-fn had_bandwidth(admission: Admission) -> bool {
-    match admission {
-        Admission::Changed | Admission::Back => true,
-        Admission::Other | Admission::Refused | Admission::Same | Admission::New => false,
-    }
-}
-
 fn changed_admit(change: RuleChange, entity: Entity, line: Admitted, room: u64) -> Admitting {
     let done = admit(entity, line, room);
     match change {
         RuleChange::AdmissionTakesNothing => {
-            if enters(done.admission) {
+            if matches!(done.admission, Admission::New | Admission::Back) {
                 Admitting {
                     change: SumsChange {
                         taken: None,
@@ -315,7 +289,7 @@ fn changed_admit(change: RuleChange, entity: Entity, line: Admitted, room: u64) 
             }
         }
         RuleChange::ChangeFreesNothing => {
-            if had_bandwidth(done.admission) {
+            if matches!(done.admission, Admission::Changed | Admission::Back) {
                 Admitting {
                     change: frees_nothing(done.change),
                     ..done

@@ -29,51 +29,6 @@ fn never_constrained(law: ChargeLaw, entity: Entity, line: Enqueued) -> Enqueuin
     }
 }
 
-fn is_wake(refill: Refill) -> bool {
-    match refill {
-        Refill::Wakes(_) => true,
-        Refill::Waits | Refill::Stays | Refill::Replenishes | Refill::Restarts => false,
-    }
-}
-
-/// Whether a refill is neither a wake nor a wait.
-fn is_no_wake(refill: Refill) -> bool {
-    match refill {
-        Refill::Stays | Refill::Replenishes | Refill::Restarts => true,
-        Refill::Wakes(_) | Refill::Waits => false,
-    }
-}
-
-fn is_replenishment(refill: Refill) -> bool {
-    match refill {
-        Refill::Replenishes => true,
-        Refill::Wakes(_) | Refill::Waits | Refill::Stays | Refill::Restarts => false,
-    }
-}
-
-fn is_restart(refill: Refill) -> bool {
-    match refill {
-        Refill::Restarts => true,
-        Refill::Wakes(_) | Refill::Waits | Refill::Stays | Refill::Replenishes => false,
-    }
-}
-
-/// Whether a wake comes before the 0-lag time.
-fn contends_on(contention: Option<Contention>) -> bool {
-    match contention {
-        Some(Contention::StillRuns) => true,
-        Some(Contention::Unreserved | Contention::RunsAgain) | None => false,
-    }
-}
-
-/// Whether a task that reserves something wakes.
-fn contends(contention: Option<Contention>) -> bool {
-    match contention {
-        Some(Contention::StillRuns | Contention::RunsAgain) => true,
-        Some(Contention::Unreserved) | None => false,
-    }
-}
-
 /// The same enqueue, where it is a wake by the changed rule.
 fn rewoken(
     change: RuleChange,
@@ -98,7 +53,7 @@ fn waking_by(
     line: Enqueued,
     done: Enqueuing,
 ) -> Enqueuing {
-    if is_wake(done.refill) {
+    if matches!(done.refill, Refill::Wakes(_)) {
         rewoken(change, law, entity, line.clock, done)
     } else {
         done
@@ -112,7 +67,7 @@ fn of_one_period(entity: Entity, line: Enqueued, done: Enqueuing) -> Enqueuing {
         ..entity
     };
     let by = replenished_once(served, line.clock);
-    if is_replenishment(done.refill) && entity.parameters.dl_deadline != 0 {
+    if matches!(done.refill, Refill::Replenishes) && entity.parameters.dl_deadline != 0 {
         Enqueuing {
             entity: with_budget(done.entity, by.budget.runtime, by.budget.deadline),
             ..done
@@ -166,14 +121,14 @@ fn after_enqueue(
         RuleChange::WakeRenews => waking_by(RuleChange::WakeRenews, law, entity, line, done),
         RuleChange::WakeEarly => waking_by(RuleChange::WakeEarly, law, entity, line, done),
         RuleChange::MoveWakes => {
-            if moves(done.arrival) && is_no_wake(done.refill) {
+            if moves(done.arrival) && !matches!(done.refill, Refill::Wakes(_) | Refill::Waits) {
                 rewoken(RuleChange::MoveWakes, law, entity, line.clock, done)
             } else {
                 done
             }
         }
         RuleChange::RestoreStays => {
-            if is_restart(done.refill) {
+            if matches!(done.refill, Refill::Restarts) {
                 Enqueuing {
                     entity: before_refill(entity, done),
                     refill: Refill::Stays,
@@ -184,7 +139,7 @@ fn after_enqueue(
             }
         }
         RuleChange::TimerStays => {
-            if contends_on(done.contention) {
+            if matches!(done.contention, Some(Contention::StillRuns)) {
                 Enqueuing {
                     entity: Entity {
                         has_inactive_timer: entity.has_inactive_timer,
@@ -197,7 +152,11 @@ fn after_enqueue(
             }
         }
         RuleChange::WakeElsewhereAddsNothing => {
-            if contends(done.contention) && has(line.flags, MIGRATED) {
+            if matches!(
+                done.contention,
+                Some(Contention::StillRuns | Contention::RunsAgain)
+            ) && has(line.flags, MIGRATED)
+            {
                 Enqueuing {
                     change: SumsChange {
                         this_bw: done.change.this_bw.wrapping_sub(entity.dl_bw),

@@ -34,10 +34,6 @@ fn runs(task: DeadlineTask) -> bool {
     task.entity.is_in_class && is_awake(task.activity)
 }
 
-fn wakes(task: DeadlineTask) -> bool {
-    task.entity.is_in_class && !is_awake(task.activity)
-}
-
 /// A line that says nothing of a task or a timer.
 fn quiet(kept: KeptLine) -> KeptLine {
     KeptLine {
@@ -245,7 +241,7 @@ impl Play {
         let (Some(before), Some(after)) = (before, self.machine.task(number)) else {
             return Ok(());
         };
-        if wakes(before) {
+        if before.entity.is_in_class && !is_awake(before.activity) {
             let did = waking_of(self.law(), before, self.begins, clock);
             let woken = woken_by(self.change, self.law(), before, after, did, clock);
             self.machine.replace(number, woken);

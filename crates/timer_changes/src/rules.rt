@@ -209,14 +209,6 @@ pub(crate) fn block_difference(change: RuleChange, task: DeadlineTask, at: u64) 
     Some(block_moments(other, at).difference)
 }
 
-/// The task by which the moment of a replenishment timer is reckoned; none where that rule is not changed.
-fn waits_as(change: RuleChange, task: DeadlineTask) -> Option<DeadlineTask> {
-    match change {
-        RuleChange::UntilDeadline => Some(with_period(task, task.entity.parameters.dl_deadline)),
-        _ => None,
-    }
-}
-
 /// What a replenishment timer comes to that is started at this moment, where the changed rule gives its own.
 pub(crate) fn start_answer(
     change: RuleChange,
@@ -225,7 +217,10 @@ pub(crate) fn start_answer(
     expires: u64,
     within: u64,
 ) -> Option<ObservedAnswer> {
-    let other = waits_as(change, task)?;
+    if change != RuleChange::UntilDeadline {
+        return None;
+    }
+    let other = with_period(task, task.entity.parameters.dl_deadline);
     let moments = replenish_moments(other, at, expires);
     Some(answer_of(task.knowledge, moments.difference, within))
 }
