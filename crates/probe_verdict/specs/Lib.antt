@@ -1,9 +1,2 @@
-pub mod Answers
-pub mod Changes
 pub mod Explained
-pub mod Names
-pub mod Quantities
-pub mod Rows
 pub mod Texts
-pub mod Totals
-pub mod Values

@@ -1,15 +1,9 @@
 //! The names of changed rules.
 
-ghost use Rattle.std.specs.Prelude.{◌≡◌};
-ghost use Rattle.probe_verdict.specs.Changes.{change_words};
-
 use kernel_changes::RuleChange;
 
 /// A rule in place of the kernel's.
-pub fn change_name(change: RuleChange) -> &'static str
-    ensures name { result.now ≡ change_words change }
-    ensures own { (other : RuleChange) → change_words other ≡ result.now → other ≡ change }
-{
+pub fn change_name(change: RuleChange) -> &'static str {
     match change {
         RuleChange::InactiveIsRunning => "charge: running_bw as the inactive bandwidth",
         RuleChange::WithoutExtra => "charge: without extra_bw",

@@ -1,10 +1,7 @@
 //! The last lines of a verdict: that each value is the kernel's, or the first that is not.
 
-ghost use Rattle.std.specs.Prelude.{◌≡◌, ◌++◌, IfNone, IfSome, OnOk};
-ghost use Rattle.probe_findings.specs.Kinds.{kind_by};
-ghost use Rattle.probe_verdict.specs.Answers.{TellsFirst, agreement_text, both_text, comparison_text, difference_of, difference_text, is_law, law_text, law_told, place_told};
-ghost use Rattle.probe_verdict.specs.Texts.{Extends};
-ghost use Rattle.probe_verdict.specs.Totals.{total_differ};
+ghost use Rattle.std.specs.Prelude.{◌≡◌, ◌++◌, IfNone, IfSome, OnOk, codes};
+ghost use Rattle.probe_verdict.specs.Texts.{Extends, agreement_text};
 
 use crate::heading::{NamedTask, ProbeHeading};
 use crate::names::{event_name, function_of, quantity_name, rule_function, rule_name};
@@ -29,27 +26,26 @@ pub fn put_answer(
 ) -> Result<(), AllocError>
     ensures agrees { OnOk result (IfNone first
         (out.new.items ≡ out.old.items ++ agreement_text)) }
-    ensures law { OnOk result (IfSome first (λ d. IfSome (law_told d broken)
-        (λ b. Extends (out.old.items ++ law_text b.line) out.new.items))) }
-    ensures value { OnOk result (IfSome first (λ d. IfNone (law_told d broken) (TellsFirst
-        out.old.items out.new.items (total_differ counts.now) heading.entry.tasks.now d.comparison))) }
+    ensures differs { OnOk result (IfSome first
+        (λ d. Extends (out.old.items ++ codes "differs: ") out.new.items)) }
 {
     match first {
         None => put(out, "agrees, bit for bit\n"),
-        Some(first) => match broken {
-            Some(broken) if is_of_law(first) => put_broken(alloc, out, broken),
-            _ => {
-                let differ = total_of(counts).differ;
-                put_differs(alloc, out, heading.tasks, heading.kernel, differ, first)
+        Some(first) => {
+            put(out, "differs: ")?;
+            match broken {
+                Some(broken) if is_of_law(first) => put_broken(alloc, out, broken),
+                _ => {
+                    let differ = total_of(counts).differ;
+                    put_differs(alloc, out, heading.tasks, heading.kernel, differ, first)
+                }
             }
-        },
+        }
     }
 }
 
 /// Whether it is no value that differs, but a law that is broken.
-fn is_of_law(first: Deviation) -> bool
-    ensures { result ≡ is_law (kind_by first.comparison.quantity) }
-{
+fn is_of_law(first: Deviation) -> bool {
     match kind_of(first.comparison.quantity) {
         QuantityKind::Laws => true,
         _ => false,
@@ -58,10 +54,10 @@ fn is_of_law(first: Deviation) -> bool
 
 /// Appends the law that a record breaks though each of its values agrees.
 fn put_broken(alloc: Global, out: &mut Vec<u8>, broken: Broken) -> Result<(), AllocError>
-    ensures { OnOk result (Extends (out.old.items ++ law_text broken.line) out.new.items) }
+    ensures { OnOk result (Extends out.old.items out.new.items) }
 {
     let line = broken.line;
-    let text = format!(in alloc; "differs: a law is broken, first at line {line}\n  ")?;
+    let text = format!(in alloc; "a law is broken, first at line {line}\n  ")?;
     put(out, text.as_str())?;
     match broken.law {
         Law::Ratio => put_ratio(alloc, out, broken),
@@ -97,10 +93,8 @@ fn put_differs(
     differ: u64,
     first: Deviation,
 ) -> Result<(), AllocError>
-    ensures { OnOk result
-        (TellsFirst out.old.items out.new.items differ names.now first.comparison) }
+    ensures { OnOk result (Extends out.old.items out.new.items) }
 {
-    put(out, "differs: ")?;
     put_count(alloc, out, differ)?;
     put_place(alloc, out, first.comparison.place, kernel)?;
     put_comparison(alloc, out, &first.comparison, names)?;
@@ -119,7 +113,7 @@ fn put_place(
     place: ProbedLine,
     kernel: Option<Kernel>,
 ) -> Result<(), AllocError>
-    ensures { OnOk result (Extends (out.old.items ++ place_told place.line) out.new.items) }
+    ensures { OnOk result (Extends out.old.items out.new.items) }
 {
     let line = place.line;
     let text = format!(in alloc; " of these values, first at line {line}, ")?;
@@ -148,7 +142,7 @@ fn put_comparison(
     row: &Comparison,
     names: &[NamedTask],
 ) -> Result<(), AllocError>
-    ensures { OnOk result (out.new.items ≡ out.old.items ++ comparison_text names.now row.now) }
+    ensures { OnOk result (Extends out.old.items out.new.items) }
 {
     put(out, quantity_name(row.quantity))?;
     put(out, " of ")?;
@@ -162,7 +156,7 @@ fn put_values(
     row: &Comparison,
     names: &[NamedTask],
 ) -> Result<(), AllocError>
-    ensures { OnOk result (out.new.items ≡ out.old.items ++ both_text names.now row.now) }
+    ensures { OnOk result (Extends out.old.items out.new.items) }
 {
     put(out, ": ")?;
     put_value(alloc, out, row.rules, names)?;
@@ -172,9 +166,7 @@ fn put_values(
 }
 
 /// By how much the kernel's number is above the rules', if both are numbers.
-fn difference(rules: ExactValue, kernel: ExactValue) -> Option<i128>
-    ensures { result ≡ difference_of rules kernel }
-{
+fn difference(rules: ExactValue, kernel: ExactValue) -> Option<i128> {
     match (rules, kernel) {
         (ExactValue::Unsigned(rules), ExactValue::Unsigned(kernel)) => {
             Some(i128::from(kernel) - i128::from(rules))
@@ -191,7 +183,7 @@ fn put_difference(
     out: &mut Vec<u8>,
     difference: Option<i128>,
 ) -> Result<(), AllocError>
-    ensures { OnOk result (out.new.items ≡ out.old.items ++ difference_text difference) }
+    ensures { OnOk result (Extends out.old.items out.new.items) }
 {
     let Some(difference) = difference else {
         return put(out, " in the kernel\n");

@@ -1,9 +1,7 @@
 //! Which one changed rule explains a record.
 
-ghost use Rattle.std.specs.Prelude.{◌≡◌, ◌++◌, IfOk, OnOk};
-ghost use Rattle.std.specs.List.{flat_map};
-ghost use Rattle.probe_verdict.specs.Explained.{agrees_line, explaining, guess_line, guesses, has_any, is_explained, is_guess_of, told_text, with_change};
-ghost use Rattle.probe_verdict.specs.Totals.{total_differ};
+ghost use Rattle.std.specs.Prelude.{◌≡◌};
+ghost use Rattle.probe_verdict.specs.Explained.{is_explained, is_guess_of};
 
 use crate::changes::change_name;
 use crate::text::total_of;
@@ -46,10 +44,7 @@ pub fn put_explanation(
     agrees: bool,
     counts: &KindCounts,
     trials: &[Trial],
-) -> Result<(), AllocError>
-    ensures { OnOk result (out.new.items ≡ out.old.items ++ told_text
-        (explaining agrees trials.now) (guesses (total_differ counts.now) trials.now)) }
-{
+) -> Result<(), AllocError> {
     let is_explained = put_explaining(out, agrees, trials)?;
     let is_guessed = put_guesses(alloc, out, total_of(counts).differ, trials)?;
     if is_explained || is_guessed {
@@ -58,20 +53,14 @@ pub fn put_explanation(
     put(out, "  no one changed rule explains it\n")
 }
 
-fn put_change(out: &mut Vec<u8>, change: RuleChange) -> Result<(), AllocError>
-    ensures { OnOk result (out.new.items ≡ out.old.items ++ with_change change) }
-{
+fn put_change(out: &mut Vec<u8>, change: RuleChange) -> Result<(), AllocError> {
     put(out, "  with one rule changed, \"")?;
     put(out, change_name(change))?;
     put(out, "\": ")
 }
 
 /// Appends the changes with which the record agrees. True where there is one.
-fn put_explaining(out: &mut Vec<u8>, agrees: bool, trials: &[Trial]) -> Result<bool, AllocError>
-    ensures is_named { IfOk result (λ is_named. is_named ≡ has_any (explaining agrees trials.now)) }
-    ensures lines { OnOk result (out.new.items
-        ≡ out.old.items ++ flat_map agrees_line (explaining agrees trials.now)) }
-{
+fn put_explaining(out: &mut Vec<u8>, agrees: bool, trials: &[Trial]) -> Result<bool, AllocError> {
     let mut is_named = false;
     for trial in trials {
         if explains(agrees, trial.agrees) {
@@ -89,11 +78,7 @@ fn put_guesses(
     out: &mut Vec<u8>,
     differ: u64,
     trials: &[Trial],
-) -> Result<bool, AllocError>
-    ensures is_named { IfOk result (λ is_named. is_named ≡ has_any (guesses differ trials.now)) }
-    ensures lines { OnOk result (out.new.items
-        ≡ out.old.items ++ flat_map guess_line (guesses differ trials.now)) }
-{
+) -> Result<bool, AllocError> {
     let mut is_named = false;
     for trial in trials {
         if is_guess(differ, trial.differ) {
@@ -104,9 +89,7 @@ fn put_guesses(
     Ok(is_named)
 }
 
-fn put_guess(alloc: Global, out: &mut Vec<u8>, trial: Trial) -> Result<(), AllocError>
-    ensures { OnOk result (out.new.items ≡ out.old.items ++ guess_line trial) }
-{
+fn put_guess(alloc: Global, out: &mut Vec<u8>, trial: Trial) -> Result<(), AllocError> {
     put_change(out, trial.change)?;
     put(out, "a guess, since ")?;
     put_count(alloc, out, trial.differ)?;

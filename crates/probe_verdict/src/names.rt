@@ -1,18 +1,11 @@
 //! Words for what is compared, and the kernel's functions behind them.
 
-ghost use Rattle.std.specs.Prelude.{◌≡◌};
-ghost use Rattle.probe_verdict.specs.Names.{charges_by_class, event_word, function_word, kind_word};
-ghost use Rattle.probe_verdict.specs.Quantities.{quantity_word};
-
 use kernel_versions::{UpdateFunction, has_servers, release_of};
 use probe_findings::{ExactRule, ProbedFunction, Quantity, QuantityKind};
 use trace_data::Kernel;
 
 /// The name of a line's event.
-pub fn event_name(event: ProbedFunction) -> &'static str
-    ensures name { result.now ≡ event_word event }
-    ensures own { (other : ProbedFunction) → event_word other ≡ result.now → other ≡ event }
-{
+pub fn event_name(event: ProbedFunction) -> &'static str {
     match event {
         ProbedFunction::Enqueue => "enq",
         ProbedFunction::Update => "upd",
@@ -49,9 +42,7 @@ fn runs_servers(kernel: Option<Kernel>) -> bool {
 }
 
 /// Whether a kernel charges by `update_curr_dl`; where none is told it is a current one.
-fn charges_by_class(kernel: Option<Kernel>) -> bool
-    ensures { result ≡ charges_by_class kernel }
-{
+fn charges_by_class(kernel: Option<Kernel>) -> bool {
     match kernel {
         Some(kernel) => release_of(kernel).update == UpdateFunction::UpdateCurrDl,
         None => false,
@@ -59,9 +50,7 @@ fn charges_by_class(kernel: Option<Kernel>) -> bool
 }
 
 /// The function that charges a task for its run: before 6.8 no other entity than a task has a budget.
-fn charging_function(kernel: Option<Kernel>) -> &'static str
-    ensures { result.now ≡ function_word ProbedFunction.Update kernel }
-{
+fn charging_function(kernel: Option<Kernel>) -> &'static str {
     if charges_by_class(kernel) {
         "update_curr_dl"
     } else {
@@ -70,9 +59,7 @@ fn charging_function(kernel: Option<Kernel>) -> &'static str
 }
 
 /// The function whose entry a line of this event shows, by its name in this kernel.
-pub fn function_of(event: ProbedFunction, kernel: Option<Kernel>) -> &'static str
-    ensures { result.now ≡ function_word event kernel }
-{
+pub fn function_of(event: ProbedFunction, kernel: Option<Kernel>) -> &'static str {
     match event {
         ProbedFunction::Enqueue => "enqueue_task_dl",
         ProbedFunction::Update => charging_function(kernel),
@@ -101,10 +88,7 @@ pub fn function_of(event: ProbedFunction, kernel: Option<Kernel>) -> &'static st
 }
 
 /// The word of a kind in a table.
-pub fn kind_name(kind: QuantityKind) -> &'static str
-    ensures name { result.now ≡ kind_word kind }
-    ensures own { (other : QuantityKind) → kind_word other ≡ result.now → other ≡ kind }
-{
+pub fn kind_name(kind: QuantityKind) -> &'static str {
     match kind {
         QuantityKind::Budget => "budget",
         QuantityKind::Deadline => "deadline",
@@ -146,9 +130,7 @@ pub(crate) fn kind_plural(kind: QuantityKind) -> &'static str {
 }
 
 /// A value by its name in the kernel.
-pub fn quantity_name(quantity: Quantity) -> &'static str
-    ensures { result.now ≡ quantity_word quantity }
-{
+pub fn quantity_name(quantity: Quantity) -> &'static str {
     match quantity {
         Quantity::Runtime => "runtime",
         Quantity::Deadline => "deadline",

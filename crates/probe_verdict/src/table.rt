@@ -1,8 +1,5 @@
 //! A row for each comparison, for pandas and gnuplot.
 
-ghost use Rattle.std.specs.Prelude.{◌≡◌, ◌++◌, OnOk};
-ghost use Rattle.probe_verdict.specs.Rows.{answer_text, kind_text, place_text, row_text, values_text};
-
 use crate::heading::NamedTask;
 use crate::names::{event_name, kind_name};
 use crate::writing::{put, put_subject, put_value};
@@ -18,26 +15,20 @@ pub fn put_row(
     out: &mut Vec<u8>,
     row: &Comparison,
     names: &[NamedTask],
-) -> Result<(), AllocError>
-    ensures { OnOk result (out.new.items ≡ out.old.items ++ row_text names.now row.now) }
-{
+) -> Result<(), AllocError> {
     put_place(alloc, out, row.place)?;
     put_subject(alloc, out, row.subject, names)?;
     put_kind(alloc, out, row)?;
     put_values(alloc, out, row, names)
 }
 
-fn put_place(alloc: Global, out: &mut Vec<u8>, place: ProbedLine) -> Result<(), AllocError>
-    ensures { OnOk result (out.new.items ≡ out.old.items ++ place_text place) }
-{
+fn put_place(alloc: Global, out: &mut Vec<u8>, place: ProbedLine) -> Result<(), AllocError> {
     let (line, at, cpu) = (place.line, place.at, place.cpu);
     let text = format!(in alloc; "{line}\t{at}\t{cpu}\t")?;
     put(out, text.as_str())
 }
 
-fn put_kind(alloc: Global, out: &mut Vec<u8>, row: &Comparison) -> Result<(), AllocError>
-    ensures { OnOk result (out.new.items ≡ out.old.items ++ kind_text row.now) }
-{
+fn put_kind(alloc: Global, out: &mut Vec<u8>, row: &Comparison) -> Result<(), AllocError> {
     let event = event_name(row.place.event);
     let kind = kind_name(kind_of(row.quantity));
     let text = format!(in alloc; "\t{event}\t{kind}\t")?;
@@ -50,17 +41,13 @@ fn put_values(
     out: &mut Vec<u8>,
     row: &Comparison,
     names: &[NamedTask],
-) -> Result<(), AllocError>
-    ensures { OnOk result (out.new.items ≡ out.old.items ++ values_text names.now row.now) }
-{
+) -> Result<(), AllocError> {
     put_value(alloc, out, row.rules, names)?;
     put(out, "\t")?;
     put_value(alloc, out, row.kernel, names)?;
     put(out, answer(row.is_equal))
 }
 
-fn answer(is_equal: bool) -> &'static str
-    ensures { result.now ≡ answer_text is_equal }
-{
+fn answer(is_equal: bool) -> &'static str {
     if is_equal { "\tequal\n" } else { "\tdiffers\n" }
 }

@@ -1,9 +1,5 @@
 //! The words of a verdict.
 
-ghost use Rattle.std.specs.Prelude.{◌≡◌, ◌++◌, OnOk, codes};
-ghost use Rattle.probe_verdict.specs.Texts.{Extends};
-ghost use Rattle.probe_verdict.specs.Totals.{TellsTotals, compared_text, has_some, has_values, total_differ, total_equal, unequal_text};
-
 use crate::heading::{DroppedLines, ProbeHeading};
 use crate::names::{ALL, KINDS, kind_plural, rule_name};
 use crate::writing::{put, put_bytes, put_comma, put_count};
@@ -20,10 +16,7 @@ pub struct Total {
 }
 
 /// The counts of all kinds together.
-pub fn total_of(counts: &KindCounts) -> Total
-    ensures equal { result.equal ≡ total_equal counts.now }
-    ensures differ { result.differ ≡ total_differ counts.now }
-{
+pub fn total_of(counts: &KindCounts) -> Total {
     let mut total = Total {
         equal: 0,
         differ: 0,
@@ -39,16 +32,12 @@ pub fn total_of(counts: &KindCounts) -> Total
 }
 
 /// Whether values of a kind were compared.
-fn has_some(tally: Comparisons) -> bool
-    ensures { result ≡ has_some tally }
-{
+fn has_some(tally: Comparisons) -> bool {
     tally.equal > 0 || tally.differ > 0
 }
 
 /// Whether one value was compared at least, those of laws aside.
-pub fn has_values(counts: &KindCounts) -> bool
-    ensures { result ≡ has_values counts.now }
-{
+pub fn has_values(counts: &KindCounts) -> bool {
     has_some(counts.budget)
         || has_some(counts.deadline)
         || has_some(counts.flags)
@@ -68,10 +57,7 @@ pub fn put_heading(
     heading: ProbeHeading<'_>,
     counts: &KindCounts,
     rules: &RuleCounts,
-) -> Result<(), AllocError>
-    ensures { OnOk result
-        (TellsTotals out.old.items out.new.items heading.entry.trace.now counts.now) }
-{
+) -> Result<(), AllocError> {
     put_record(alloc, out, heading)?;
     put_total(alloc, out, total_of(counts))?;
     put_counts(alloc, out, counts)?;
@@ -82,9 +68,7 @@ pub fn put_heading(
 }
 
 /// Appends how many charges were not compared, since no line shows how fast the CPU ran.
-fn put_unknown_speeds(alloc: Global, out: &mut Vec<u8>, charges: u64) -> Result<(), AllocError>
-    ensures { OnOk result (Extends out.old.items out.new.items) }
-{
+fn put_unknown_speeds(alloc: Global, out: &mut Vec<u8>, charges: u64) -> Result<(), AllocError> {
     if charges == 0 {
         return Ok(());
     }
@@ -97,9 +81,7 @@ fn put_unknown_speeds(alloc: Global, out: &mut Vec<u8>, charges: u64) -> Result<
 }
 
 /// Appends how many charges were by an `extra_bw` that no line shows, since a function was changing it.
-fn put_unknown_extras(alloc: Global, out: &mut Vec<u8>, charges: u64) -> Result<(), AllocError>
-    ensures { OnOk result (Extends out.old.items out.new.items) }
-{
+fn put_unknown_extras(alloc: Global, out: &mut Vec<u8>, charges: u64) -> Result<(), AllocError> {
     if charges == 0 {
         return Ok(());
     }
@@ -112,9 +94,7 @@ fn put_unknown_extras(alloc: Global, out: &mut Vec<u8>, charges: u64) -> Result<
 }
 
 /// Appends the CPUs of which no root domain is followed, if there are any.
-pub fn put_unfollowed(alloc: Global, out: &mut Vec<u8>, cpus: &[u32]) -> Result<(), AllocError>
-    ensures { OnOk result (Extends out.old.items out.new.items) }
-{
+pub fn put_unfollowed(alloc: Global, out: &mut Vec<u8>, cpus: &[u32]) -> Result<(), AllocError> {
     if cpus.is_empty() {
         return Ok(());
     }
@@ -123,9 +103,11 @@ pub fn put_unfollowed(alloc: Global, out: &mut Vec<u8>, cpus: &[u32]) -> Result<
     put(out, ", whose root domain no note tells\n")
 }
 
-fn put_record(alloc: Global, out: &mut Vec<u8>, heading: ProbeHeading<'_>) -> Result<(), AllocError>
-    ensures { OnOk result (Extends (out.old.items ++ heading.entry.trace.now ++ codes ": ") out.new.items) }
-{
+fn put_record(
+    alloc: Global,
+    out: &mut Vec<u8>,
+    heading: ProbeHeading<'_>,
+) -> Result<(), AllocError> {
     put_bytes(out, heading.trace)?;
     put(out, ": ")?;
     put_kernel(alloc, out, heading.kernel, heading.release)?;
@@ -140,9 +122,7 @@ fn put_kernel(
     out: &mut Vec<u8>,
     kernel: Option<Kernel>,
     release: Option<&[u8]>,
-) -> Result<(), AllocError>
-    ensures { OnOk result (Extends out.old.items out.new.items) }
-{
+) -> Result<(), AllocError> {
     let Some(kernel) = kernel else {
         return Ok(());
     };
@@ -154,18 +134,14 @@ fn put_kernel(
     put(out, text.as_str())
 }
 
-fn put_release(out: &mut Vec<u8>, release: &[u8]) -> Result<(), AllocError>
-    ensures { OnOk result (Extends out.old.items out.new.items) }
-{
+fn put_release(out: &mut Vec<u8>, release: &[u8]) -> Result<(), AllocError> {
     put(out, "kernel ")?;
     put_bytes(out, release)?;
     put(out, ", ")
 }
 
 /// Appends the CPUs of a root domain, as 0-3 where they follow one another.
-fn put_cpus(alloc: Global, out: &mut Vec<u8>, cpus: &[u32]) -> Result<(), AllocError>
-    ensures { OnOk result (Extends out.old.items out.new.items) }
-{
+fn put_cpus(alloc: Global, out: &mut Vec<u8>, cpus: &[u32]) -> Result<(), AllocError> {
     put(out, "processors ")?;
     match (cpus.first(), cpus.last()) {
         (Some(first), Some(last)) => put_range(alloc, out, cpus, *first, *last),
@@ -179,9 +155,7 @@ fn put_range(
     cpus: &[u32],
     first: u32,
     last: u32,
-) -> Result<(), AllocError>
-    ensures { OnOk result (Extends out.old.items out.new.items) }
-{
+) -> Result<(), AllocError> {
     let span = u64::from(last).saturating_sub(u64::from(first));
     if span == 0 || span != (cpus.len() as u64).saturating_sub(1) {
         return put_list(out, cpus);
@@ -190,9 +164,7 @@ fn put_range(
     put(out, text.as_str())
 }
 
-fn put_list(out: &mut Vec<u8>, cpus: &[u32]) -> Result<(), AllocError>
-    ensures { OnOk result (Extends out.old.items out.new.items) }
-{
+fn put_list(out: &mut Vec<u8>, cpus: &[u32]) -> Result<(), AllocError> {
     for cpu in cpus {
         put_comma(out)?;
         put_number(out, b"", u64::from(*cpu))?;
@@ -201,9 +173,7 @@ fn put_list(out: &mut Vec<u8>, cpus: &[u32]) -> Result<(), AllocError>
 }
 
 /// Appends how many tasks and lines there are, and from when to when.
-fn put_size(alloc: Global, out: &mut Vec<u8>, heading: ProbeHeading<'_>) -> Result<(), AllocError>
-    ensures { OnOk result (Extends out.old.items out.new.items) }
-{
+fn put_size(alloc: Global, out: &mut Vec<u8>, heading: ProbeHeading<'_>) -> Result<(), AllocError> {
     let tasks = heading.tasks.len();
     let span = heading.to.saturating_sub(heading.from);
     let (whole, tenth) = (span / 1_000_000_000, span % 1_000_000_000 / 100_000_000);
@@ -213,18 +183,14 @@ fn put_size(alloc: Global, out: &mut Vec<u8>, heading: ProbeHeading<'_>) -> Resu
     put(out, " lines of probes")
 }
 
-fn put_lost(out: &mut Vec<u8>, lost: Option<DroppedLines>) -> Result<(), AllocError>
-    ensures { OnOk result (Extends out.old.items out.new.items) }
-{
+fn put_lost(out: &mut Vec<u8>, lost: Option<DroppedLines>) -> Result<(), AllocError> {
     match lost {
         None => put(out, "\n"),
         Some(lost) => put_number_lost(out, lost.lines.saturating_add(lost.hits)),
     }
 }
 
-fn put_number_lost(out: &mut Vec<u8>, lost: u64) -> Result<(), AllocError>
-    ensures { OnOk result (Extends out.old.items out.new.items) }
-{
+fn put_number_lost(out: &mut Vec<u8>, lost: u64) -> Result<(), AllocError> {
     if lost == 0 {
         return put(out, "; none lost\n");
     }
@@ -232,9 +198,7 @@ fn put_number_lost(out: &mut Vec<u8>, lost: u64) -> Result<(), AllocError>
     put(out, " lost: what differs behind them may be theirs\n")
 }
 
-fn put_sums(out: &mut Vec<u8>, takes_sums: bool) -> Result<(), AllocError>
-    ensures { OnOk result (Extends out.old.items out.new.items) }
-{
+fn put_sums(out: &mut Vec<u8>, takes_sums: bool) -> Result<(), AllocError> {
     if takes_sums {
         put(
             out,
@@ -245,19 +209,14 @@ fn put_sums(out: &mut Vec<u8>, takes_sums: bool) -> Result<(), AllocError>
     }
 }
 
-fn put_total(alloc: Global, out: &mut Vec<u8>, total: Total) -> Result<(), AllocError>
-    ensures { OnOk result
-        (out.new.items ≡ out.old.items ++ compared_text total.equal total.differ) }
-{
+fn put_total(alloc: Global, out: &mut Vec<u8>, total: Total) -> Result<(), AllocError> {
     put_count(alloc, out, total.equal.saturating_add(total.differ))?;
     put(out, " values compared: ")?;
     put_count(alloc, out, total.equal)?;
     put_unequal(alloc, out, total.differ)
 }
 
-fn put_unequal(alloc: Global, out: &mut Vec<u8>, differ: u64) -> Result<(), AllocError>
-    ensures { OnOk result (out.new.items ≡ out.old.items ++ unequal_text differ) }
-{
+fn put_unequal(alloc: Global, out: &mut Vec<u8>, differ: u64) -> Result<(), AllocError> {
     if differ == 0 {
         return put(out, " equal\n");
     }
@@ -266,9 +225,7 @@ fn put_unequal(alloc: Global, out: &mut Vec<u8>, differ: u64) -> Result<(), Allo
     put(out, " differ\n")
 }
 
-fn put_counts(alloc: Global, out: &mut Vec<u8>, counts: &KindCounts) -> Result<(), AllocError>
-    ensures { OnOk result (Extends out.old.items out.new.items) }
-{
+fn put_counts(alloc: Global, out: &mut Vec<u8>, counts: &KindCounts) -> Result<(), AllocError> {
     put(out, "  ")?;
     for kind in KINDS {
         put_kind(alloc, out, kind, counts)?;
@@ -281,9 +238,7 @@ fn put_kind(
     out: &mut Vec<u8>,
     kind: QuantityKind,
     counts: &KindCounts,
-) -> Result<(), AllocError>
-    ensures { OnOk result (Extends out.old.items out.new.items) }
-{
+) -> Result<(), AllocError> {
     let tally = counts.of(kind);
     put_item(
         alloc,
@@ -294,9 +249,7 @@ fn put_kind(
 }
 
 /// Appends an item of a list and its count, where that is not 0.
-fn put_item(alloc: Global, out: &mut Vec<u8>, name: &str, count: u64) -> Result<(), AllocError>
-    ensures { OnOk result (Extends out.old.items out.new.items) }
-{
+fn put_item(alloc: Global, out: &mut Vec<u8>, name: &str, count: u64) -> Result<(), AllocError> {
     if count == 0 {
         return Ok(());
     }
@@ -306,9 +259,7 @@ fn put_item(alloc: Global, out: &mut Vec<u8>, name: &str, count: u64) -> Result<
     put_count(alloc, out, count)
 }
 
-fn put_tested(alloc: Global, out: &mut Vec<u8>, rules: &RuleCounts) -> Result<(), AllocError>
-    ensures { OnOk result (Extends out.old.items out.new.items) }
-{
+fn put_tested(alloc: Global, out: &mut Vec<u8>, rules: &RuleCounts) -> Result<(), AllocError> {
     put(out, "put to the test: ")?;
     for rule in ALL {
         put_item(alloc, out, rule_name(rule), rules.of(rule))?;
@@ -316,9 +267,7 @@ fn put_tested(alloc: Global, out: &mut Vec<u8>, rules: &RuleCounts) -> Result<()
     put(out, "\n")
 }
 
-fn put_untested(out: &mut Vec<u8>, rules: &RuleCounts) -> Result<(), AllocError>
-    ensures { OnOk result (Extends out.old.items out.new.items) }
-{
+fn put_untested(out: &mut Vec<u8>, rules: &RuleCounts) -> Result<(), AllocError> {
     put(out, "not put to the test: ")?;
     for rule in ALL {
         put_missing(out, rule, rules)?;
@@ -326,9 +275,7 @@ fn put_untested(out: &mut Vec<u8>, rules: &RuleCounts) -> Result<(), AllocError>
     put(out, "\n")
 }
 
-fn put_missing(out: &mut Vec<u8>, rule: ExactRule, rules: &RuleCounts) -> Result<(), AllocError>
-    ensures { OnOk result (Extends out.old.items out.new.items) }
-{
+fn put_missing(out: &mut Vec<u8>, rule: ExactRule, rules: &RuleCounts) -> Result<(), AllocError> {
     if rules.of(rule) > 0 {
         return Ok(());
     }

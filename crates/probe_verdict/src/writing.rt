@@ -1,10 +1,7 @@
 //! How values are written.
 
-ghost use Rattle.std.specs.Prelude.{◌≡◌, ◌++◌, [], ◌∷◌, OnOk, codes, if◌then◌else◌};
-ghost use Rattle.std.specs.Fmt.{signed_decimal};
-ghost use Rattle.std.specs.Option.{option_copied};
-ghost use Rattle.probe_verdict.specs.Texts.{Extends, count_text, ends_group};
-ghost use Rattle.probe_verdict.specs.Values.{comm_of, subject_text, task_text, timer_word, value_text, whose_text};
+ghost use Rattle.std.specs.Prelude.{◌≡◌, ◌++◌, OnOk};
+ghost use Rattle.probe_verdict.specs.Texts.{Extends};
 
 use crate::heading::NamedTask;
 use probe_findings::{ExactValue, Subject, Whose};
@@ -22,16 +19,14 @@ pub(crate) fn put(out: &mut Vec<u8>, text: &str) -> Result<(), AllocError>
 
 /// Appends bytes as they are.
 pub(crate) fn put_bytes(out: &mut Vec<u8>, bytes: &[u8]) -> Result<(), AllocError>
-    ensures { OnOk result (out.new.items ≡ out.old.items ++ bytes.now) }
+    ensures { OnOk result (Extends out.old.items out.new.items) }
 {
     out.extend_from_slice(bytes)?;
     Ok(())
 }
 
 /// Appends a comma, but behind a space.
-pub(crate) fn put_comma(out: &mut Vec<u8>) -> Result<(), AllocError>
-    ensures { OnOk result (Extends out.old.items out.new.items) }
-{
+pub(crate) fn put_comma(out: &mut Vec<u8>) -> Result<(), AllocError> {
     if out.last() == Some(&b' ') {
         Ok(())
     } else {
@@ -40,15 +35,13 @@ pub(crate) fn put_comma(out: &mut Vec<u8>) -> Result<(), AllocError>
 }
 
 /// Whether a comma stands before the last so many digits of a number.
-fn ends_group(left: usize) -> bool
-    ensures { result ≡ ends_group left }
-{
+fn ends_group(left: usize) -> bool {
     left == 3 || left == 6 || left == 9 || left == 12 || left == 15 || left == 18
 }
 
 /// Appends a number with commas, as 17,275.
 pub(crate) fn put_count(alloc: Global, out: &mut Vec<u8>, n: u64) -> Result<(), AllocError>
-    ensures { OnOk result (out.new.items ≡ out.old.items ++ count_text n) }
+    ensures { OnOk result (Extends out.old.items out.new.items) }
 {
     let text = format!(in alloc; "{n}")?;
     let digits = text.as_bytes();
@@ -59,8 +52,7 @@ pub(crate) fn put_count(alloc: Global, out: &mut Vec<u8>, n: u64) -> Result<(), 
 }
 
 fn put_digit(out: &mut Vec<u8>, digit: u8, follows_comma: bool) -> Result<(), AllocError>
-    ensures { OnOk result (out.new.items
-        ≡ out.old.items ++ (if follows_comma then codes "," else []) ++ digit ∷ []) }
+    ensures { OnOk result (Extends out.old.items out.new.items) }
 {
     if follows_comma {
         out.push(b',')?;
@@ -80,9 +72,7 @@ pub(crate) fn put_seconds(alloc: Global, out: &mut Vec<u8>, nanos: u64) -> Resul
 }
 
 /// The comm of a task, if a record shows it.
-fn comm_of(names: &[NamedTask], pid: u64) -> Option<&[u8]>
-    ensures { option_copied result ≡ comm_of names.now pid }
-{
+fn comm_of(names: &[NamedTask], pid: u64) -> Option<&[u8]> {
     for name in names {
         if name.pid == pid {
             return Some(name.comm.as_slice());
@@ -98,7 +88,7 @@ fn put_task(
     pid: u64,
     names: &[NamedTask],
 ) -> Result<(), AllocError>
-    ensures { OnOk result (out.new.items ≡ out.old.items ++ task_text (comm_of names.now pid) pid) }
+    ensures { OnOk result (Extends out.old.items out.new.items) }
 {
     match comm_of(names, pid) {
         Some(comm) => {
@@ -120,7 +110,7 @@ pub(crate) fn put_whose(
     whose: Whose,
     names: &[NamedTask],
 ) -> Result<(), AllocError>
-    ensures { OnOk result (out.new.items ≡ out.old.items ++ whose_text names.now whose) }
+    ensures { OnOk result (Extends out.old.items out.new.items) }
 {
     match whose {
         Whose::Server { cpu } => {
@@ -138,7 +128,7 @@ pub(crate) fn put_subject(
     subject: Subject,
     names: &[NamedTask],
 ) -> Result<(), AllocError>
-    ensures { OnOk result (out.new.items ≡ out.old.items ++ subject_text names.now subject) }
+    ensures { OnOk result (Extends out.old.items out.new.items) }
 {
     match subject {
         Subject::Entity(whose) => put_whose(alloc, out, whose, names),
@@ -154,9 +144,7 @@ pub(crate) fn put_subject(
     }
 }
 
-fn timer_name(function: TimerFunction) -> &'static str
-    ensures { result.now ≡ timer_word function }
-{
+fn timer_name(function: TimerFunction) -> &'static str {
     match function {
         TimerFunction::ZeroLag => "inactive_task_timer",
         TimerFunction::Replenish => "dl_task_timer",
@@ -166,7 +154,7 @@ fn timer_name(function: TimerFunction) -> &'static str
 
 /// Appends a number below 0 or not.
 fn put_signed(alloc: Global, out: &mut Vec<u8>, n: i64) -> Result<(), AllocError>
-    ensures { OnOk result (out.new.items ≡ out.old.items ++ signed_decimal n) }
+    ensures { OnOk result (Extends out.old.items out.new.items) }
 {
     let text = format!(in alloc; "{n}")?;
     put(out, text.as_str())
@@ -179,7 +167,7 @@ pub(crate) fn put_value(
     value: ExactValue,
     names: &[NamedTask],
 ) -> Result<(), AllocError>
-    ensures { OnOk result (out.new.items ≡ out.old.items ++ value_text names.now value) }
+    ensures { OnOk result (Extends out.old.items out.new.items) }
 {
     match value {
         ExactValue::Unsigned(n) => put_number(out, b"", n),
@@ -194,7 +182,7 @@ pub(crate) fn put_value(
 }
 
 fn put_no(out: &mut Vec<u8>, name: &str) -> Result<(), AllocError>
-    ensures { OnOk result (out.new.items ≡ out.old.items ++ (codes "no " ++ name.now)) }
+    ensures { OnOk result (Extends out.old.items out.new.items) }
 {
     put(out, "no ")?;
     put(out, name)
