@@ -3,7 +3,7 @@
 use crate::heading::{DroppedLines, ProbeHeading};
 use crate::names::{ALL, KINDS, kind_plural, rule_name};
 use crate::writing::{put, put_bytes, put_comma, put_count};
-use probe_findings::{Comparisons, ExactRule, KindCounts, QuantityKind, RuleCounts};
+use probe_findings::{Comparisons, ExactRule, KindCounts, RuleCounts};
 use std::alloc::{AllocError, Global};
 use text_bytes::put_number;
 use trace_data::Kernel;
@@ -127,17 +127,13 @@ fn put_kernel(
         return Ok(());
     };
     if let Some(release) = release {
-        return put_release(out, release);
+        put(out, "kernel ")?;
+        put_bytes(out, release)?;
+        return put(out, ", ");
     }
     let (major, minor, patch) = (kernel.major, kernel.minor, kernel.patch);
     let text = format!(in alloc; "kernel {major}.{minor}.{patch}, ")?;
     put(out, text.as_str())
-}
-
-fn put_release(out: &mut Vec<u8>, release: &[u8]) -> Result<(), AllocError> {
-    put(out, "kernel ")?;
-    put_bytes(out, release)?;
-    put(out, ", ")
 }
 
 /// Appends the CPUs of a root domain, as 0-3 where they follow one another.
@@ -228,24 +224,11 @@ fn put_unequal(alloc: Global, out: &mut Vec<u8>, differ: u64) -> Result<(), Allo
 fn put_counts(alloc: Global, out: &mut Vec<u8>, counts: &KindCounts) -> Result<(), AllocError> {
     put(out, "  ")?;
     for kind in KINDS {
-        put_kind(alloc, out, kind, counts)?;
+        let tally = counts.of(kind);
+        let count = tally.equal.saturating_add(tally.differ);
+        put_item(alloc, out, kind_plural(kind), count)?;
     }
     put(out, "\n")
-}
-
-fn put_kind(
-    alloc: Global,
-    out: &mut Vec<u8>,
-    kind: QuantityKind,
-    counts: &KindCounts,
-) -> Result<(), AllocError> {
-    let tally = counts.of(kind);
-    put_item(
-        alloc,
-        out,
-        kind_plural(kind),
-        tally.equal.saturating_add(tally.differ),
-    )
 }
 
 /// Appends an item of a list and its count, where that is not 0.
@@ -270,15 +253,10 @@ fn put_tested(alloc: Global, out: &mut Vec<u8>, rules: &RuleCounts) -> Result<()
 fn put_untested(out: &mut Vec<u8>, rules: &RuleCounts) -> Result<(), AllocError> {
     put(out, "not put to the test: ")?;
     for rule in ALL {
-        put_missing(out, rule, rules)?;
+        if rules.of(rule) == 0 {
+            put_comma(out)?;
+            put(out, rule_name(rule))?;
+        }
     }
     put(out, "\n")
-}
-
-fn put_missing(out: &mut Vec<u8>, rule: ExactRule, rules: &RuleCounts) -> Result<(), AllocError> {
-    if rules.of(rule) > 0 {
-        return Ok(());
-    }
-    put_comma(out)?;
-    put(out, rule_name(rule))
 }

@@ -81,18 +81,10 @@ fn put_task(alloc: Global, out: &mut Vec<u8>, name: &[u8], apart: Apart) -> Resu
     put(out, name)?;
     put(out, b": ")?;
     put_count(alloc, out, apart.differ)?;
-    put_rest(alloc, out, apart)
-}
-
-fn put_rest(alloc: Global, out: &mut Vec<u8>, apart: Apart) -> Result<(), AllocError> {
     put(out, b" of ")?;
     put_count(alloc, out, apart.compared)?;
     put(out, b" blocks, rules - kernel in us from ")?;
     put_micros(alloc, out, apart.least)?;
-    put_end(alloc, out, apart)
-}
-
-fn put_end(alloc: Global, out: &mut Vec<u8>, apart: Apart) -> Result<(), AllocError> {
     put(out, b" to ")?;
     put_micros(alloc, out, apart.greatest)?;
     put(out, b"\n")
