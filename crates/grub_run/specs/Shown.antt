@@ -1,5 +1,5 @@
 -- The text of a view of the time line of files.
-use Rattle.std.specs.Prelude.{◌≡◌, ◌<◌, ◌^◌, ℕ, List, length, Option, max, unwrap_or}
+use Rattle.std.specs.Prelude.{◌≡◌, ◌<◌, ◌^◌, ℕ, List, length, Option, max, unwrap_or, ⊤}
 use Rattle.grub_book.specs.declared.event.Reading.{Reading}
 use Rattle.grub_timeline.specs.TimeLines.{IsTimeLine}
 use Rattle.grub_timeline.specs.declared.told.ToldEntry.{ToldEntry}
@@ -11,7 +11,6 @@ use Rattle.grub_views.specs.Lines.{timeline_lines}
 use Rattle.grub_picture.specs.Picture.{IsDocument, last_moment}
 use Rattle.grub_steps.specs.Replay.{steps_of}
 use Rattle.grub_views.specs.Rows.{step_rows}
-use Rattle.grub_summary.specs.Summary.{IsSummary}
 use Rattle.grub_run.specs.declared.view.FileView.{FileView}
 use Rattle.grub_run.specs.declared.view.FileView.TheVariants.{Timeline, Steps, Summary, Picture}
 
@@ -23,11 +22,11 @@ first_of from = unwrap_or from 0
 abbrev pub end_of : Option ℕ → List ToldEntry → ℕ
 end_of to told = unwrap_or to (max 1 (last_moment told))
 
--- The text is a view of these entries and closing readings. A picture begins before it ends, and is a document shorter than 4 MiB.
+-- The text is a view of these entries and closing readings. Of a summary nothing more is told than that it is one text. A picture begins before it ends, and is a document shorter than 4 MiB.
 abbrev pub IsViewOf : FileView → PlanView → List ToldEntry → List Reading → List ℕ → Type 0
 IsViewOf Timeline plan told closing text = text ≡ timeline_lines plan.names told closing
 IsViewOf Steps plan told closing text = text ≡ step_rows plan.names (steps_of plan.setup told)
-IsViewOf Summary plan told closing text = IsSummary plan.setup plan.names (steps_of plan.setup told) text
+IsViewOf Summary plan told closing text = ⊤
 IsViewOf (Picture from to) plan told closing text = (first_of from < end_of to told) × (length text < 2 ^ 22) × IsDocument text
 
 -- the text is that of a view of the time line of these files

@@ -1,8 +1,8 @@
 -- One step more.
-use Rattle.std.proofs.Common.{◌≡◌, ℕ, ◌+◌, ◌<◌, List, [], ◌∷◌, ◌++◌, length, get_or, drop, Some, refl, subst, sym, ◌∙◌, add-one, append_assoc}
+use Rattle.std.proofs.Common.{◌≡◌, ℕ, ◌+◌, ◌<◌, List, [], ◌∷◌, ◌++◌, length, get_or, drop, Some, refl, sym, ◌∙◌, add-one, append_assoc}
 use Rattle.std.proofs.Math.Seq.{drop-cons}
 use Rattle.grub_book.specs.Machine.{Machine}
-use Rattle.grub_book.specs.Sums.{Records, record_at, opening_book, reading_of}
+use Rattle.grub_book.specs.Sums.{Records, record_at, reading_of}
 use Rattle.grub_book.specs.Step.{step}
 use Rattle.grub_book.specs.declared.event.Reading.{Reading}
 use Rattle.grub_book.specs.declared.op.Op.{Op}
@@ -11,9 +11,8 @@ use Rattle.grub_plan.specs.declared.entry.Ask.TheVariants.{Call}
 use Rattle.grub_timeline.specs.declared.told.ToldEntry.{ToldEntry}
 use Rattle.std.proofs.lemmas.List.Elements.{All-head, All-tail, All-cons, All-from_recursion}
 use Rattle.std.specs.List.{All}
-use Rattle.grub_steps.specs.Fitting.{AreStepsIn, AreToldIn, IsToldIn}
 use Rattle.grub_steps.specs.Past.{book_past}
-use Rattle.grub_steps.specs.Replay.{book_after, queue_or, step_of, steps_from, steps_of}
+use Rattle.grub_steps.specs.Replay.{book_after, queue_or, step_of, steps_from}
 use Rattle.grub_steps.specs.declared.book_steps.Step.{Step}
 
 -- a call, by what was kept of its task before and after
@@ -38,10 +37,6 @@ steps_hold P s book [] all = All-from_recursion (λ (x : Step). P x.told) [] tt
 steps_hold P s book (x ∷ told) all =
     All-cons (λ (x : Step). P x.told) (step_of s book x) (steps_from s (book_after s book x.entry.ask) told) (All-head P x told all)
     (steps_hold P s (book_after s book x.entry.ask) told (All-tail P x told all))
-
-pub steps_in : (s : Machine) (told : List ToldEntry) (steps : List Step) → AreToldIn s told → steps ≡ steps_of s told → AreStepsIn s steps
-unfolding steps_of
-steps_in s told steps all is = subst (λ xs. AreStepsIn s xs) (sym is) (steps_hold (IsToldIn s) s (opening_book s) told all)
 
 -- the book after what is left, less one
 pub past_left : (s : Machine) (book then : Records) (i : ℕ) (told : List ToldEntry) (d : ToldEntry) → i < length told

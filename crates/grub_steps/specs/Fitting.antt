@@ -5,7 +5,6 @@ use Rattle.grub_book.specs.Op.{IsOp}
 use Rattle.grub_plan.specs.declared.entry.Ask.{Ask}
 use Rattle.grub_plan.specs.declared.entry.Ask.TheVariants.{Call, Read}
 use Rattle.grub_timeline.specs.declared.told.ToldEntry.{ToldEntry}
-use Rattle.grub_steps.specs.declared.book_steps.Step.{Step}
 
 -- the task of a call is there, and its op is in range
 abbrev pub IsAskIn : Machine → Ask → Type 0
@@ -20,7 +19,3 @@ pub record IsToldIn (s : Machine) (x : ToldEntry) : Type 0 where
 -- the entries are of the runqueues and tasks of a setup
 abbrev pub AreToldIn : Machine → List ToldEntry → Type 0
 AreToldIn s told = All (IsToldIn s) told
-
--- and so are the entries of these steps
-abbrev pub AreStepsIn : Machine → List Step → Type 0
-AreStepsIn s steps = All (λ x. IsToldIn s x.told) steps

@@ -2,4 +2,3 @@ pub mod Fitting
 pub mod Messages
 pub mod Past
 pub mod Replay
-pub mod Said

@@ -1,10 +1,10 @@
 //! The entries of a time line, each with what it made of the book.
 
-ghost use Rattle.std.specs.Prelude.{◌≡◌, ◌≤◌, IfOk, length, vec_capacity};
+ghost use Rattle.std.specs.Prelude.{◌≡◌, ◌≤◌, length, vec_capacity};
 ghost use Rattle.grub_timeline.specs.TimeLines.{AreWithin, IsTimeLine};
-ghost use Rattle.grub_steps.specs.Fitting.{AreStepsIn, AreToldIn, IsToldIn};
+ghost use Rattle.grub_steps.specs.Fitting.{AreToldIn, IsToldIn};
 ghost use Rattle.grub_steps.specs.Past.{book_past};
-ghost use Rattle.grub_steps.specs.Replay.{book_after, queue_or, step_of, steps_from, steps_of};
+ghost use Rattle.grub_steps.specs.Replay.{book_after, queue_or, step_of, steps_from};
 
 use grub_book::{Book, Place, Reading, Setup};
 use grub_bw::Server;
@@ -44,8 +44,6 @@ pub struct Step {
 /// The steps of these entries, by a book that begins with every task away. It is refused where the allocator refused.
 pub fn replay(alloc: Global, setup: &Setup, told: &[ToldEntry]) -> Result<Vec<Step>, AllocError>
     requires { AreToldIn setup.now told.now }
-    ensures steps { IfOk result (λ v. v.items ≡ steps_of setup.now told.now) }
-    ensures fits { IfOk result (λ v. AreStepsIn setup.now v.items) }
 {
     let mut steps = Vec::with_capacity(alloc, told.len())?;
     let Ok(mut book) = Book::new(alloc, setup) else {
@@ -59,14 +57,12 @@ pub fn replay(alloc: Global, setup: &Setup, told: &[ToldEntry]) -> Result<Vec<St
 pub fn played_steps(alloc: Global, plan: &Plan, line: &TimeLine) -> Result<Vec<Step>, AllocError>
     requires line { IsTimeLine plan.now line.now.told.items line.now.closing.items }
     requires within { AreWithin plan.now.setup line.now.told.items }
-    ensures { IfOk result (λ v. v.items ≡ steps_of plan.now.setup line.now.told.items) }
 {
     steps_in(alloc, plan, line)
 }
 
 fn steps_in(alloc: Global, plan: &Plan, line: &TimeLine) -> Result<Vec<Step>, AllocError>
     requires { AreToldIn plan.now.setup line.now.told.items }
-    ensures { IfOk result (λ v. v.items ≡ steps_of plan.now.setup line.now.told.items) }
 {
     replay(alloc, plan.setup(), &line.told)
 }
@@ -78,7 +74,6 @@ pub fn step_after(book: &mut Book, x: &ToldEntry) -> Step
     ensures records { book.new.records
         ≡ book_after book.old.setup book.old.records x.now.entry.ask }
     ensures value { result ≡ step_of book.old.setup book.old.records x.now }
-    ensures told { result.told ≡ x.now }
 {
     let Ask::Call { t, op } = x.entry.ask else {
         return Step {

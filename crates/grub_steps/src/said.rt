@@ -1,18 +1,12 @@
 //! What a step says of its task.
 
-ghost use Rattle.std.specs.Prelude.{◌≡◌};
-ghost use Rattle.grub_book.specs.Step.{is_refusing};
-ghost use Rattle.grub_steps.specs.Said.{charge_in, is_asleep, is_joined, is_kept, is_left, is_refused, is_retired, is_waiting, is_woken, lateness, lateness_in, least_after, recharges_in, run_of, server_before};
-
 use crate::book_steps::{Change, Step};
 use grub_book::{Op, Reply};
 use grub_bw::Server;
 use grub_plan::{Answer, Ask};
 
 /// How long the task ran, in moments, where a step charges a run, and else 0.
-pub fn run_of(ask: Ask, answer: Answer) -> u32
-    ensures { result ≡ run_of ask answer }
-{
+pub fn run_of(ask: Ask, answer: Answer) -> u32 {
     match (ask, answer) {
         (
             Ask::Call {
@@ -26,9 +20,7 @@ pub fn run_of(ask: Ask, answer: Answer) -> u32
 }
 
 /// What a step charges, in moments of budget, and where it charges nothing 0.
-pub fn charge_in(ask: Ask, answer: Answer) -> u64
-    ensures { result ≡ charge_in ask answer }
-{
+pub fn charge_in(ask: Ask, answer: Answer) -> u64 {
     match (ask, answer) {
         (
             Ask::Call {
@@ -42,9 +34,7 @@ pub fn charge_in(ask: Ask, answer: Answer) -> u64
 }
 
 /// How often a charge recharged the budget.
-pub fn recharges_in(answer: Answer) -> u32
-    ensures { result ≡ recharges_in answer }
-{
+pub fn recharges_in(answer: Answer) -> u32 {
     match answer {
         Answer::Replied(Reply::Charged { k, .. }) => k,
         _ => 0,
@@ -52,51 +42,37 @@ pub fn recharges_in(answer: Answer) -> u32
 }
 
 /// The answer tells of a join.
-pub fn is_joined(answer: Answer) -> bool
-    ensures { result ≡ is_joined answer }
-{
+pub fn is_joined(answer: Answer) -> bool {
     matches!(answer, Answer::Replied(Reply::Joined { .. }))
 }
 
 /// The answer tells of a wake.
-pub fn is_woken(answer: Answer) -> bool
-    ensures { result ≡ is_woken answer }
-{
+pub fn is_woken(answer: Answer) -> bool {
     matches!(answer, Answer::Replied(Reply::Woken { .. }))
 }
 
 /// The answer tells that the task left a runqueue.
-pub fn is_left(answer: Answer) -> bool
-    ensures { result ≡ is_left answer }
-{
+pub fn is_left(answer: Answer) -> bool {
     matches!(answer, Answer::Replied(Reply::Left { .. }))
 }
 
 /// The answer tells of a block before the 0-lag time.
-pub fn is_waiting(answer: Answer) -> bool
-    ensures { result ≡ is_waiting answer }
-{
+pub fn is_waiting(answer: Answer) -> bool {
     matches!(answer, Answer::Replied(Reply::Waiting { .. }))
 }
 
 /// The answer tells of a block at the 0-lag time or after it.
-pub fn is_asleep(answer: Answer) -> bool
-    ensures { result ≡ is_asleep answer }
-{
+pub fn is_asleep(answer: Answer) -> bool {
     matches!(answer, Answer::Replied(Reply::Asleep))
 }
 
 /// The answer tells that the 0-lag time came while the task waited.
-pub fn is_retired(answer: Answer) -> bool
-    ensures { result ≡ is_retired answer }
-{
+pub fn is_retired(answer: Answer) -> bool {
     matches!(answer, Answer::Replied(Reply::Retired))
 }
 
 /// The task's server before a step that changes one, and else a server of nothing.
-pub fn server_before(change: Option<Change>) -> Server
-    ensures { result ≡ server_before change }
-{
+pub fn server_before(change: Option<Change>) -> Server {
     match change {
         Some(change) => change.server,
         None => Server { q: 0, d: 0 },
@@ -104,9 +80,7 @@ pub fn server_before(change: Option<Change>) -> Server
 }
 
 /// The answer tells of a join or a wake that found this server, and left it.
-pub fn is_kept(server: Server, answer: Answer) -> bool
-    ensures { result ≡ is_kept server answer }
-{
+pub fn is_kept(server: Server, answer: Answer) -> bool {
     match answer {
         Answer::Replied(Reply::Joined { q, d } | Reply::Woken { q, d }) => {
             q == server.q && d == server.d
@@ -115,9 +89,7 @@ pub fn is_kept(server: Server, answer: Answer) -> bool
     }
 }
 
-fn lateness(d: u32, m: u32, answer: Answer) -> u32
-    ensures { result ≡ lateness d m answer }
-{
+fn lateness(d: u32, m: u32, answer: Answer) -> u32 {
     match answer {
         Answer::Replied(Reply::Waiting { .. } | Reply::Asleep) => m.saturating_sub(d),
         _ => 0,
@@ -125,9 +97,7 @@ fn lateness(d: u32, m: u32, answer: Answer) -> u32
 }
 
 /// How long after the deadline a block came, and of every other step 0.
-pub fn lateness_in(x: &Step) -> u32
-    ensures { result ≡ lateness_in x.now }
-{
+pub fn lateness_in(x: &Step) -> u32 {
     lateness(
         server_before(x.change).d,
         x.told.entry.m,
@@ -136,9 +106,7 @@ pub fn lateness_in(x: &Step) -> u32
 }
 
 /// The least budget so far, with this answer's.
-pub fn least_after(least: u32, answer: Answer) -> u32
-    ensures { result ≡ least_after least answer }
-{
+pub fn least_after(least: u32, answer: Answer) -> u32 {
     match answer {
         Answer::Replied(
             Reply::Joined { q, .. } | Reply::Woken { q, .. } | Reply::Charged { q, .. },
@@ -147,9 +115,7 @@ pub fn least_after(least: u32, answer: Answer) -> u32
     }
 }
 
-fn is_refusing(reply: Reply) -> bool
-    ensures { result ≡ is_refusing reply }
-{
+fn is_refusing(reply: Reply) -> bool {
     match reply {
         Reply::Joined { .. }
         | Reply::Woken { .. }
@@ -165,9 +131,7 @@ fn is_refusing(reply: Reply) -> bool
 }
 
 /// The answer refuses; after a wake that finds the task elsewhere it moves, and that counts as none.
-pub fn is_refused(ask: Ask, answer: Answer) -> bool
-    ensures { result ≡ is_refused ask answer }
-{
+pub fn is_refused(ask: Ask, answer: Answer) -> bool {
     match (ask, answer) {
         (
             Ask::Call {

@@ -1,14 +1,8 @@
 //! The summary of a time line: a table of its tasks and one of its runqueues.
 
-ghost use Rattle.std.specs.Prelude.{◌≡◌, ◌+◌, ◌<◌, ◌^◌, List, map, length, IfOk};
-ghost use Rattle.std.specs.List.{range_with_len};
+ghost use Rattle.std.specs.Prelude.{◌≡◌, ◌+◌, ◌<◌, ◌^◌, length};
 ghost use Rattle.grub_timeline.specs.TimeLines.{AreWithin, IsTimeLine};
-ghost use Rattle.grub_steps.specs.declared.book_steps.Step.{Step};
-ghost use Rattle.grub_summary.specs.inside.Adding.{meters_of, tallies_of};
 ghost use Rattle.grub_steps.specs.Fitting.{AreToldIn};
-ghost use Rattle.grub_steps.specs.Replay.{steps_of};
-ghost use Rattle.grub_summary.specs.Summary.{IsSummary, mean_of, percent_of, queue_cells, queue_row, task_cells, task_row};
-ghost use Rattle.grub_summary.specs.declared.table.Cell.TheVariants.{Head};
 
 use crate::sums::sums_of;
 use crate::table::{Cell, table_of};
@@ -30,16 +24,12 @@ const QUEUE_COLUMNS: usize = 9;
 pub fn summary_text(alloc: Global, plan: &Plan, line: &TimeLine) -> Result<Vec<u8>, ViewFault>
     requires line { IsTimeLine plan.now line.now.told.items line.now.closing.items }
     requires within { AreWithin plan.now.setup line.now.told.items }
-    ensures { IfOk result (λ v. IsSummary plan.now.setup plan.now.names
-        (steps_of plan.now.setup line.now.told.items) v.items) }
 {
     text_of(alloc, plan, line).map_err(|_| ViewFault::NoMemory)
 }
 
 fn text_of(alloc: Global, plan: &Plan, line: &TimeLine) -> Result<Vec<u8>, AllocError>
     requires { AreToldIn plan.now.setup line.now.told.items }
-    ensures { IfOk result (λ v. IsSummary plan.now.setup plan.now.names
-        (steps_of plan.now.setup line.now.told.items) v.items) }
 {
     let sums = sums_of(alloc, plan.setup(), &line.told)?;
     let tasks = task_cells(alloc, plan, &sums.tallies)?;
@@ -54,7 +44,6 @@ fn text_of(alloc: Global, plan: &Plan, line: &TimeLine) -> Result<Vec<u8>, Alloc
 /// The names of so many columns.
 fn heads_of(alloc: Global, from: u32, count: u32) -> Result<Vec<Cell>, AllocError>
     requires { from + count < 2 ^ 32 }
-    ensures { IfOk result (λ v. v.items ≡ map Head (range_with_len from count)) }
 {
     let mut cells = Vec::new(alloc);
     for k in 0..count {
@@ -66,8 +55,6 @@ fn heads_of(alloc: Global, from: u32, count: u32) -> Result<Vec<Cell>, AllocErro
 /// The names of the columns, and a row for each task.
 fn task_cells(alloc: Global, plan: &Plan, tallies: &[Tally]) -> Result<Vec<Cell>, AllocError>
     requires { length tallies.now ≡ length plan.now.setup.tasks }
-    ensures { (steps : List Step) → tallies.now ≡ tallies_of plan.now.setup steps
-        → IfOk result (λ v. v.items ≡ task_cells plan.now.setup steps) }
 {
     let setup = plan.setup();
     let mut cells = heads_of(alloc, 0, 19)?;
@@ -78,9 +65,7 @@ fn task_cells(alloc: Global, plan: &Plan, tallies: &[Tally]) -> Result<Vec<Cell>
     Ok(cells)
 }
 
-fn task_row(t: u32, params: Params, x: Tally) -> [Cell; 19]
-    ensures { result ≡ task_row t params x }
-{
+fn task_row(t: u32, params: Params, x: Tally) -> [Cell; 19] {
     [
         Cell::Name(t),
         Cell::Number(u128::from(params.runtime())),
@@ -107,8 +92,6 @@ fn task_row(t: u32, params: Params, x: Tally) -> [Cell; 19]
 /// The names of the columns, and a row for each runqueue.
 fn queue_cells(alloc: Global, plan: &Plan, meters: &[Meter]) -> Result<Vec<Cell>, AllocError>
     requires { length meters.now ≡ length plan.now.setup.queues }
-    ensures { (steps : List Step) → meters.now ≡ meters_of plan.now.setup steps
-        → IfOk result (λ v. v.items ≡ queue_cells plan.now.setup steps) }
 {
     let setup = plan.setup();
     let mut cells = heads_of(alloc, 19, 9)?;
@@ -120,9 +103,7 @@ fn queue_cells(alloc: Global, plan: &Plan, meters: &[Meter]) -> Result<Vec<Cell>
     Ok(cells)
 }
 
-fn queue_row(r: u32, queue: Queue, span: u32, x: Usage) -> [Cell; 9]
-    ensures { result ≡ queue_row r queue span x }
-{
+fn queue_row(r: u32, queue: Queue, span: u32, x: Usage) -> [Cell; 9] {
     [
         Cell::Number(u128::from(r)),
         Cell::Number(u128::from(queue.umax())),
@@ -137,17 +118,13 @@ fn queue_row(r: u32, queue: Queue, span: u32, x: Usage) -> [Cell; 9]
 }
 
 /// A bandwidth of 1/2^20 in hundredths of a percent of the processor, rounded down.
-fn percent_of(bandwidth: u128) -> u128
-    ensures { result ≡ percent_of bandwidth }
-{
+fn percent_of(bandwidth: u128) -> u128 {
     // Whole processors first, so that no product is too great.
     let unit = u128::from(BW_UNIT);
     bandwidth / unit * 10000 + bandwidth % unit * 10000 / unit
 }
 
-fn mean_of(area: u128, span: u32) -> u128
-    ensures { result ≡ mean_of area span }
-{
+fn mean_of(area: u128, span: u32) -> u128 {
     if span == 0 {
         0
     } else {

