@@ -1,4 +1,2 @@
-mod OptionLemmas
 mod PrintLemmas
-mod ReadLemmas
 mod ServingLemmas

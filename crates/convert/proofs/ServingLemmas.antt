@@ -1,6 +1,6 @@
 -- Files that are made one after another.
 use Rattle.std.proofs.Common.{◌≡◌, ◌<◌, ◌+◌, ◌∙◌, ap, arith, sym, subst, refl, ℕ, zero, suc, List, [], ◌∷◌, ◌++◌, get_or, length, map, take}
-use Rattle.std.specs.Prelude.{All, Some, slice_get}
+use Rattle.std.specs.Prelude.{All}
 use Rattle.std.specs.List.{AllZip}
 use Rattle.std.proofs.lemmas.List.{length-append, map_more}
 use Rattle.std.proofs.lemmas.List.Elements.{All-push}
@@ -24,9 +24,3 @@ both_next R f h xs ys i x y below_x below_y is_x is_y all one =
 pub count_of_paths : (prefix : List ℕ) (n : ℕ) → length (event_paths prefix n) ≡ n
 count_of_paths prefix zero = refl
 count_of_paths prefix (suc r) = length-append (event_paths prefix r) (event_path prefix r ∷ []) ∙ omega (arith, count_of_paths prefix r)
-
--- what stands at a place of a list
-pub slice_at : {A B : Type 0} (f : A → B) (xs : List A) (i : ℕ) (x : A) → i < length xs → x ≡ get_or xs i x → slice_get (map f xs) i ≡ Some (f x)
-slice_at f [] i x below is = absurd (omega (arith, below))
-slice_at f (z ∷ xs) zero x below is = ap (λ y. Some (f y)) (sym is)
-slice_at f (z ∷ xs) (suc i) x below is = slice_at f xs i x (omega (arith, below)) is

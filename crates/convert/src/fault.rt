@@ -1,16 +1,11 @@
 //! The fault of a trace's line.
 
-ghost use Rattle.std.specs.Prelude.{◌≡◌};
-ghost use Rattle.convert.specs.Faults.{fault_from};
-
 use convert_facts::{LineFault, Wrong};
 use trace_data::Flaw;
 use trace_faults::Fault;
 
 /// The fault of the first line with one.
-pub(crate) fn fault_from<'a>(fault: LineFault) -> Fault<'a>
-    ensures { result ≡ fault_from fault }
-{
+pub(crate) fn fault_from<'a>(fault: LineFault) -> Fault<'a> {
     let LineFault { line, wrong } = fault;
     match wrong {
         Wrong::UnknownTask { comm, pid } => Fault::UnknownTask { line, pid, comm },

@@ -1,11 +1,6 @@
 //! The event files of a trace.
 
-ghost use Rattle.std.specs.Prelude.{◌≡◌, ◌<◌, ◌↔◌, All, IsTrue, IfOk, IfErr, None, OnOk, find, length, map, option_map};
-ghost use Rattle.grub_plan.specs.Contents.{contents};
-ghost use Rattle.convert_events.specs.Order.{FirstBeyond, is_beyond};
-ghost use Rattle.convert.specs.Files.{AreFiles, AreGiven, FitTogether, IsSetting, IsFault, IsSound, events_told, fair_of, files_of, has_servers, is_shown, missing_from, most_by_bw, most_noted, most_of, name_in, params_in, reservation_of, reservations};
-ghost use Rattle.convert.specs.Options.{most_from};
-ghost use Rattle.trace_fields.specs.Words.{text_of};
+ghost use Rattle.std.specs.Prelude.{◌≡◌, length};
 
 use crate::options::{ConvertOptions, FairReservation, TaskReservation, admitted};
 use convert_events::{
@@ -40,16 +35,12 @@ pub enum FilesFault<'a> {
 }
 
 /// Whether each fact is one of so many tasks.
-fn are_given(facts: &[Fact], tasks: usize) -> bool
-    ensures { IsTrue result ↔ All (λ f. f.task < tasks) facts.now }
-{
+fn are_given(facts: &[Fact], tasks: usize) -> bool {
     facts.iter().all(|fact| fact.task < tasks)
 }
 
 /// A limit of bandwidth as the kernel has it, in 1/2^20: 2^64 - 1 is no limit. None where it is not 1 to 2^20.
-fn most_by_bw(bw: u64) -> Option<u32>
-    ensures { result ≡ most_by_bw bw }
-{
+fn most_by_bw(bw: u64) -> Option<u32> {
     if bw == u64::MAX {
         Some(BW_UNIT)
     } else if bw == 0 || bw > u64::from(BW_UNIT) {
@@ -60,32 +51,21 @@ fn most_by_bw(bw: u64) -> Option<u32>
 }
 
 /// The most bandwidth of deadline tasks on a runqueue by a note, in 1/2^20; none where it is not 1 to 2^20.
-fn most_noted(limit: Limit) -> Option<u32>
-    ensures { result ≡ most_noted limit }
-{
+fn most_noted(limit: Limit) -> Option<u32> {
     match limit {
         Limit::MaxBw(bw) => most_by_bw(bw),
         Limit::Runtime { runtime, period } => {
             if runtime < 0 {
                 Some(BW_UNIT)
             } else {
-                most_from(runtime.cast_unsigned(), period)
+                umax_of(runtime.cast_unsigned(), period)
             }
         }
     }
 }
 
-/// The most bandwidth of deadline tasks on a runqueue by the kernel's runtime and period; none where it is not 1 to 2^20.
-fn most_from(runtime: u64, period: u64) -> Option<u32>
-    ensures { result ≡ most_from (runtime, period) }
-{
-    umax_of(runtime, period)
-}
-
 /// The most bandwidth of deadline tasks on a runqueue: by an option, else by a note, else the kernel's default.
-fn most_of(options: &ConvertOptions<'_>, facts: &Facts) -> u32
-    ensures { result ≡ most_of options.now facts.now }
-{
+fn most_of(options: &ConvertOptions<'_>, facts: &Facts) -> u32 {
     if let Some(most) = options.umax {
         return most;
     }
@@ -96,9 +76,7 @@ fn most_of(options: &ConvertOptions<'_>, facts: &Facts) -> u32
 }
 
 /// Whether each runqueue of a kernel has a server of fair tasks, where nothing else is said.
-fn has_servers(kernel: Option<Kernel>) -> bool
-    ensures { result ≡ has_servers kernel }
-{
+fn has_servers(kernel: Option<Kernel>) -> bool {
     match kernel {
         None => true,
         Some(kernel) => kernel_versions::has_servers(kernel),
@@ -106,9 +84,7 @@ fn has_servers(kernel: Option<Kernel>) -> bool
 }
 
 /// The server of fair tasks of each runqueue: by an option, else the recorded kernel's.
-fn fair_of(options: &ConvertOptions<'_>, facts: &Facts) -> Option<Params>
-    ensures { result ≡ fair_of options.now facts.now }
-{
+fn fair_of(options: &ConvertOptions<'_>, facts: &Facts) -> Option<Params> {
     match options.fair {
         FairReservation::Absent => None,
         FairReservation::Reserves(params) => Some(params),
@@ -122,12 +98,7 @@ fn fair_of(options: &ConvertOptions<'_>, facts: &Facts) -> Option<Params>
 
 /// The events of a trace at their moments. Facts of a task that is none of those that were given, which no trace tells, are
 /// refused as for want of memory.
-fn place(alloc: Global, facts: &Facts) -> Result<Vec<TimedEvent>, OrderFault>
-    ensures placed { IfOk result (λ v. v.items ≡ events_told facts.now) }
-    ensures within { IfOk result (λ v. find (is_beyond facts.now.runqueues) v.items ≡ None) }
-    ensures beyond { IfErr result (FirstBeyond facts.now.runqueues (events_told facts.now)) }
-    ensures given { OnOk result (AreGiven facts.now) }
-{
+fn place(alloc: Global, facts: &Facts) -> Result<Vec<TimedEvent>, OrderFault> {
     let tasks = facts.found.len();
     if !are_given(&facts.facts, tasks) {
         return Err(OrderFault::NoMemory);
@@ -135,19 +106,10 @@ fn place(alloc: Global, facts: &Facts) -> Result<Vec<TimedEvent>, OrderFault>
     place_facts(alloc, facts.runqueues, tasks, &facts.facts)
 }
 
-/// Whether the trace shows the task of a number.
-fn is_shown(found: &[Option<Found>], i: usize) -> bool
-    ensures { result ≡ is_shown found.now i }
-{
-    matches!(found.get(i), Some(Some(_)))
-}
-
 /// The first given task that the trace does not show.
-fn missing<'a>(tasks: &[TaskReservation<'a>], found: &[Option<Found>]) -> Option<&'a str>
-    ensures { option_map text_of result ≡ missing_from found.now 0 tasks.now }
-{
+fn missing<'a>(tasks: &[TaskReservation<'a>], found: &[Option<Found>]) -> Option<&'a str> {
     for (i, task) in tasks.iter().enumerate() {
-        if !is_shown(found, i) {
+        if !matches!(found.get(i), Some(Some(_))) {
             return Some(task.name);
         }
     }
@@ -157,9 +119,7 @@ fn missing<'a>(tasks: &[TaskReservation<'a>], found: &[Option<Found>]) -> Option
 fn given_reservations(
     alloc: Global,
     tasks: &[TaskReservation<'_>],
-) -> Result<Vec<Params>, AllocError>
-    ensures { IfOk result (λ v. v.items ≡ map reservation_of tasks.now) }
-{
+) -> Result<Vec<Params>, AllocError> {
     tasks.iter().map(|task| task.params).collect(alloc)
 }
 
@@ -168,19 +128,14 @@ fn reservations(
     alloc: Global,
     options: &ConvertOptions<'_>,
     facts: &Facts,
-) -> Result<Vec<Params>, AllocError>
-    ensures { IfOk result (λ v. v.items ≡ reservations options.now facts.now) }
-{
+) -> Result<Vec<Params>, AllocError> {
     let mut all = given_reservations(alloc, &options.tasks)?;
     all.extend_from_slice(&facts.noted)?;
     Ok(all)
 }
 
 /// A task of the event files.
-fn declared(alloc: Global, name: &[u8], params: Params) -> Result<Declared, AllocError>
-    ensures name { IfOk result (λ d. name_in d ≡ name.now) }
-    ensures params { IfOk result (λ d. params_in d ≡ params) }
-{
+fn declared(alloc: Global, name: &[u8], params: Params) -> Result<Declared, AllocError> {
     let name = Vec::from_slice(alloc, name)?;
     Ok(Declared { name, params })
 }
@@ -192,8 +147,6 @@ fn declarations(
     params: &[Params],
 ) -> Result<Vec<Declared>, AllocError>
     requires { length names.now ≡ length params.now }
-    ensures names { IfOk result (λ v. map name_in v.items ≡ contents names.now) }
-    ensures params { IfOk result (λ v. map params_in v.items ≡ params.now) }
 {
     let mut tasks = Vec::new(alloc);
     for i in 0..names.len() {
@@ -208,10 +161,7 @@ pub fn setting_of(
     alloc: Global,
     options: &ConvertOptions<'_>,
     facts: &Facts,
-) -> Result<Setting, AllocError>
-    ensures setting { IfOk result (IsSetting options.now facts.now) }
-    ensures fit { OnOk result (FitTogether options.now facts.now) }
-{
+) -> Result<Setting, AllocError> {
     let params = reservations(alloc, options, facts)?;
     let names = names_of(alloc, facts.runqueues, &facts.found)?;
     if facts.runqueues == 0 || params.len() > u32::MAX as usize || names.len() != params.len() {
@@ -235,9 +185,7 @@ fn texts(
     setting: &Setting,
     runqueues: u32,
     placed: &[TimedEvent],
-) -> Result<Vec<Vec<u8>>, AllocError>
-    ensures { IfOk result (λ v. contents v.items ≡ files_of setting.now placed.now runqueues) }
-{
+) -> Result<Vec<Vec<u8>>, AllocError> {
     let mut files = Vec::new(alloc);
     for runqueue in 0..runqueues {
         files.push(event_file(alloc, setting, runqueue, placed)?)?;
@@ -252,11 +200,7 @@ pub fn events_told<'a>(
     alloc: Global,
     options: &ConvertOptions<'a>,
     facts: &Facts,
-) -> Result<Vec<TimedEvent>, FilesFault<'a>>
-    ensures events { IfOk result (λ v. v.items ≡ events_told facts.now) }
-    ensures sound { OnOk result (IsSound options.now facts.now) }
-    ensures fault { IfErr result (IsFault options.now facts.now) }
-{
+) -> Result<Vec<TimedEvent>, FilesFault<'a>> {
     let placed = match place(alloc, facts) {
         Ok(placed) => placed,
         Err(OrderFault::TooLong { line }) => return Err(FilesFault::TooLong { line }),
@@ -277,10 +221,7 @@ fn files_of_events(
     options: &ConvertOptions<'_>,
     facts: &Facts,
     placed: &[TimedEvent],
-) -> Result<Vec<Vec<u8>>, AllocError>
-    requires { placed.now ≡ events_told facts.now }
-    ensures { IfOk result (λ v. AreFiles options.now facts.now (contents v.items)) }
-{
+) -> Result<Vec<Vec<u8>>, AllocError> {
     let setting = setting_of(alloc, options, facts)?;
     let files = texts(alloc, &setting, facts.runqueues, placed)?;
     Ok(files)
@@ -291,11 +232,7 @@ pub fn event_files<'a>(
     alloc: Global,
     options: &ConvertOptions<'a>,
     facts: &Facts,
-) -> Result<Vec<Vec<u8>>, FilesFault<'a>>
-    ensures files { IfOk result (λ v. AreFiles options.now facts.now (contents v.items)) }
-    ensures sound { OnOk result (IsSound options.now facts.now) }
-    ensures fault { IfErr result (IsFault options.now facts.now) }
-{
+) -> Result<Vec<Vec<u8>>, FilesFault<'a>> {
     let placed = events_told(alloc, options, facts)?;
     match files_of_events(alloc, options, facts, &placed) {
         Ok(files) => Ok(files),

@@ -1,14 +1,5 @@
 //! What the words of options say.
 
-ghost use Rattle.std.specs.Prelude.{◌≡◌, [], Some, IfOk, map, option_map};
-ghost use Rattle.std.specs.List.{list_any};
-ghost use Rattle.std.specs.Result.{result_map_both};
-ghost use Rattle.trace_fields.specs.Words.{text_of};
-ghost use Rattle.trace_options.specs.Settings.{asked, value_of, wrong_by};
-ghost use Rattle.trace_options.specs.declared.options.CheckOption.TheVariants as option;
-ghost use Rattle.convert.specs.Options.{admitted, fair_by, fair_in, given_task, most_in, pair_in, reservation_from, reservation_in, said_by, said_in, task_in, tasks_on};
-ghost use Rattle.convert.specs.inside.Words.{is_named};
-
 use convert_events::umax_of;
 use grub_bw::Params;
 use std::alloc::{AllocError, Global};
@@ -45,9 +36,7 @@ pub struct ConvertOptions<'a> {
 }
 
 /// The numbers of `RUNTIME:PERIOD`.
-fn pair_of(text: &str) -> Option<(u64, u64)>
-    ensures { result ≡ pair_in text.now }
-{
+fn pair_of(text: &str) -> Option<(u64, u64)> {
     let (runtime, period) = last_parts(text, ':')?;
     match (
         numeral(10, runtime.as_bytes()),
@@ -59,16 +48,12 @@ fn pair_of(text: &str) -> Option<(u64, u64)>
 }
 
 /// A reservation of these numbers, where a book admits it.
-pub(crate) fn admitted(runtime: u32, period: u32) -> Option<Params>
-    ensures { result ≡ admitted (reservation_from (runtime, period)) }
-{
+pub(crate) fn admitted(runtime: u32, period: u32) -> Option<Params> {
     Params::new(runtime, period).ok()
 }
 
 /// The reservation of `RUNTIME:PERIOD`, in microseconds.
-fn params_of(text: &str) -> Option<Params>
-    ensures { result ≡ reservation_in text.now }
-{
+fn params_of(text: &str) -> Option<Params> {
     let (runtime, period) = pair_of(text)?;
     match (u32::try_from(runtime), u32::try_from(period)) {
         (Ok(runtime), Ok(period)) => admitted(runtime, period),
@@ -77,35 +62,26 @@ fn params_of(text: &str) -> Option<Params>
 }
 
 /// The task of `NAME=RUNTIME:PERIOD`, whose name ends at the last `=`.
-fn task_of(text: &str) -> Option<TaskReservation<'_>>
-    ensures { option_map given_task result ≡ task_in text.now }
-{
+fn task_of(text: &str) -> Option<TaskReservation<'_>> {
     let (name, reservation) = last_parts(text, '=')?;
     let params = params_of(reservation)?;
     Some(TaskReservation { name, params })
 }
 
 /// The server of fair tasks of `RUNTIME:PERIOD` or `none`.
-fn fair_of(text: &str) -> Option<FairReservation>
-    ensures { result ≡ fair_in text.now }
-{
+fn fair_of(text: &str) -> Option<FairReservation> {
     if text == "none" {
         return Some(FairReservation::Absent);
     }
     Some(FairReservation::Reserves(params_of(text)?))
 }
 
-fn wrong<'a>(option: CheckOption, value: &'a str) -> WrongOption<'a>
-    ensures { result ≡ record { option = option; value = value.entry } }
-{
+fn wrong<'a>(option: CheckOption, value: &'a str) -> WrongOption<'a> {
     WrongOption { option, value }
 }
 
 /// The server of `--fair-server`, or the recorded kernel's where it is not given.
-fn server_of(text: Option<&str>) -> Result<FairReservation, WrongOption<'_>>
-    ensures { result_map_both (λ server. server) wrong_by result
-        ≡ result_map_both fair_by (λ wrong. wrong) (asked fair_in option.FairServer (value_of text.entry)) }
-{
+fn server_of(text: Option<&str>) -> Result<FairReservation, WrongOption<'_>> {
     match text {
         None => Ok(FairReservation::Usual),
         Some(text) => match fair_of(text) {
@@ -116,9 +92,7 @@ fn server_of(text: Option<&str>) -> Result<FairReservation, WrongOption<'_>>
 }
 
 /// Whether a name is among these tasks.
-fn names(tasks: &[TaskReservation<'_>], name: &str) -> bool
-    ensures { result ≡ list_any (is_named name.now) tasks.now }
-{
+fn names(tasks: &[TaskReservation<'_>], name: &str) -> bool {
     tasks.iter().any(|task| task.name == name)
 }
 
@@ -126,10 +100,7 @@ fn names(tasks: &[TaskReservation<'_>], name: &str) -> bool
 fn tasks_of<'a>(
     alloc: Global,
     words: &[&'a str],
-) -> Result<Result<Vec<TaskReservation<'a>>, WrongOption<'a>>, AllocError>
-    ensures { IfOk result (λ made. result_map_both (λ v. map given_task v.items) wrong_by made
-        ≡ tasks_on [] (map text_of words.now)) }
-{
+) -> Result<Result<Vec<TaskReservation<'a>>, WrongOption<'a>>, AllocError> {
     let mut tasks = Vec::new(alloc);
     for word in words {
         let Some(task) = task_of(word) else {
@@ -146,18 +117,13 @@ fn tasks_of<'a>(
 }
 
 /// The most bandwidth of deadline tasks on a runqueue, of `RUNTIME:PERIOD`.
-fn most_of(text: &str) -> Option<u32>
-    ensures { result ≡ most_in text.now }
-{
+fn most_of(text: &str) -> Option<u32> {
     let (runtime, period) = pair_of(text)?;
     umax_of(runtime, period)
 }
 
 /// The most bandwidth of `--rt`, where it is given.
-fn limit_of(text: Option<&str>) -> Result<Option<u32>, WrongOption<'_>>
-    ensures { result_map_both (λ most. most) wrong_by result
-        ≡ asked most_in option.Rt (value_of text.entry) }
-{
+fn limit_of(text: Option<&str>) -> Result<Option<u32>, WrongOption<'_>> {
     match text {
         None => Ok(None),
         Some(text) => match most_of(text) {
@@ -175,10 +141,7 @@ pub fn options_of<'a>(
     cpus: Option<u32>,
     rt: Option<&'a str>,
     fair: Option<&'a str>,
-) -> Result<Result<ConvertOptions<'a>, WrongOption<'a>>, AllocError>
-    ensures { IfOk result (λ made. result_map_both said_by wrong_by made
-        ≡ said_in (map text_of tasks.now) cpus (value_of rt.entry) (value_of fair.entry)) }
-{
+) -> Result<Result<ConvertOptions<'a>, WrongOption<'a>>, AllocError> {
     let tasks = match tasks_of(alloc, tasks)? {
         Ok(tasks) => tasks,
         Err(wrong) => return Ok(Err(wrong)),

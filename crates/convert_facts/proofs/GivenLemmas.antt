@@ -1,11 +1,8 @@
 -- Lists of the given tasks, seen by their texts.
-use Rattle.std.proofs.Common.{◌≡◌, ℕ, zero, suc, ◌+◌, ◌<◌, Bool, true, false, not, cond, ltb, List, [], ◌∷◌, length, map, set, get_or, Option, Some, None, is_some, option_map, refl, sym, ap, ◌∙◌, arith}
+use Rattle.std.proofs.Common.{◌≡◌, ℕ, zero, suc, ◌+◌, ◌<◌, Bool, true, false, not, cond, ltb, List, [], ◌∷◌, length, map, set, get_or, Option, Some, None, is_some, refl, sym, ap, ◌∙◌, arith}
 use Rattle.std.specs.List.{position, position_or_len, prefix_len}
 use Rattle.std.proofs.lemmas.List.{length-map}
-use Rattle.trace_fields.specs.declared.shown.Shown.{Shown}
-use Rattle.convert_facts.specs.declared.fact.Found.{Found}
-use Rattle.convert_facts.specs.Given.{Task, changed_at, changed_where, first_shown, settled_by}
-use Rattle.convert_facts.specs.Keeping.{finding_text}
+use Rattle.convert_facts.specs.Given.{Task, changed_at, changed_where, settled_by}
 
 prefix_map : {X Y : Type 0} (p : Y → Bool) (f : X → Y) (xs : List X) → prefix_len p (map f xs) ≡ prefix_len (λ x. p (f x)) xs
 prefix_map p f [] = refl
@@ -36,12 +33,8 @@ pub settled_first : (o c : Option ℕ) (i n : ℕ) (tasks : List Task) → is_so
 settled_first None c i n tasks known is = rw is refl
 settled_first (Some k) c i n tasks known is = absurd cc
 
--- a first showing, by its texts
-pub first_is : (t : Task) (o : Option Found) (line : ℕ) (shown : Shown (List ℕ)) (comm : List ℕ) → is_some o ≡ false → comm ≡ shown.comm → ◌≡◌ {A = Task} (record { sought = t.sought; pid = t.pid; found = Some (record { pid = shown.pid; comm = comm; line = line }); timer = t.timer }) (first_shown line shown (record { sought = t.sought; pid = t.pid; found = option_map finding_text o; timer = t.timer }))
-first_is t None line shown comm none same = rw same refl
-first_is t (Some f) line shown comm none same = absurd cc
-
--- a later showing changes nothing
-pub later_is : (t : Task) (o : Option Found) (line : ℕ) (shown : Shown (List ℕ)) → is_some o ≡ true → ◌≡◌ {A = Task} (first_shown line shown (record { sought = t.sought; pid = t.pid; found = option_map finding_text o; timer = t.timer })) (record { sought = t.sought; pid = t.pid; found = option_map finding_text o; timer = t.timer })
-later_is t None line shown some = absurd cc
-later_is t (Some f) line shown some = refl
+-- a change of one element to itself
+pub unchanged : {X : Type 0} (i : ℕ) (xs : List X) → changed_at i (λ x. x) xs ≡ xs
+unchanged i [] = refl
+unchanged zero (x ∷ xs) = refl
+unchanged (suc i) (x ∷ xs) = ap (λ ys. x ∷ ys) (unchanged i xs)

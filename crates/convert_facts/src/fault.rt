@@ -1,8 +1,5 @@
 //! What is wrong with a line of a trace.
 
-ghost use Rattle.std.specs.Prelude.{◌≡◌, option_map};
-ghost use Rattle.convert_facts.specs.Faults.{fault_text, first_fault};
-
 use trace_data::Flaw;
 use trace_lines::Halt;
 
@@ -35,12 +32,8 @@ pub struct LineFault {
 }
 
 impl Wrong {
-    ghost use Rattle.convert_facts.specs.Faults.{flawed, problem_of};
-
     /// The fault of a line that has a flaw.
-    pub(crate) fn of_flaw(flaw: Flaw) -> Wrong
-        ensures { problem_of result ≡ flawed flaw }
-    {
+    pub(crate) fn of_flaw(flaw: Flaw) -> Wrong {
         match flaw {
             Flaw::WrongClock => Wrong::WrongClock,
             Flaw::LostEvents => Wrong::LostEvents,
@@ -51,9 +44,7 @@ impl Wrong {
 }
 
 /// The first fault of a text: that of its lines by the tasks that were given, else that of the line at which it halts.
-pub(crate) fn first_fault(own: Option<LineFault>, halt: Option<Halt>) -> Option<LineFault>
-    ensures { option_map fault_text result ≡ first_fault (option_map fault_text own) halt }
-{
+pub(crate) fn first_fault(own: Option<LineFault>, halt: Option<Halt>) -> Option<LineFault> {
     if let Some(fault) = own {
         return Some(fault);
     }

@@ -1,14 +1,11 @@
 //! The facts of the given tasks.
 
-ghost use Rattle.std.specs.Prelude.{◌≡◌, ◌++◌, [], IfOk, OnOk, Some, map, option_map};
+ghost use Rattle.std.specs.Prelude.{◌≡◌, IfOk, OnOk, is_none, is_some};
 ghost use Rattle.trace_fields.specs.Shown.{shown_text};
-ghost use Rattle.convert_facts.specs.Faults.{problem_of};
+ghost use Rattle.convert_facts.specs.Given.{is_passed, is_trouble, move_trouble, reservation_noted, reserving, tasks_after, tasks_given, trouble_of, trouble_told, wake_trouble};
+ghost use Rattle.convert_facts.specs.Keeping.{tasks_text};
 ghost use Rattle.convert_facts.specs.inside.Outcomes.{outcome_of};
-ghost use Rattle.convert_facts.specs.Given.{Task, fact_told, given_noted, is_passed, move_trouble, noted_by, problem_of_trouble, reservation_noted, reserving, reserving_problem, tasks_given, trouble_of, trouble_told, wake_trouble, what_told, woken_by};
-ghost use Rattle.convert_facts.specs.Keeping.{finding_text, noted_text, tasks_text};
 ghost use Rattle.convert_facts.specs.inside.Reports.{maybe_shown, report_text};
-ghost use Rattle.trace_fields.specs.Words.{text_of};
-ghost use Rattle.convert_facts.specs.declared.keeper.Trouble.TheVariants.{Unknown};
 
 use crate::fact::{Fact, Found, What};
 use crate::fault::Wrong;
@@ -47,9 +44,7 @@ pub struct Keeper {
     facts: Vec<Fact>,
 }
 
-fn what_told(own: u32, event: &Fixed) -> Option<What>
-    ensures { result ≡ what_told own event.now }
-{
+fn what_told(own: u32, event: &Fixed) -> Option<What> {
     match *event {
         Fixed::Woken {
             is_deadline: true,
@@ -141,9 +136,7 @@ fn trouble_told(report: &EventReport<&[u8]>, task: Option<usize>, runqueues: u32
 }
 
 /// The task that the line of a wake shows.
-fn woken_by(shown: Option<Shown<&[u8]>>) -> Shown<&[u8]>
-    ensures { shown_text result ≡ woken_by (maybe_shown shown.entry) }
-{
+fn woken_by(shown: Option<Shown<&[u8]>>) -> Shown<&[u8]> {
     match shown {
         Some(shown) => shown,
         None => Shown { comm: b"", pid: 0 },
@@ -151,10 +144,7 @@ fn woken_by(shown: Option<Shown<&[u8]>>) -> Shown<&[u8]>
 }
 
 /// The fault of a wake of a task that was not given.
-fn unknown(alloc: Global, report: &EventReport<&[u8]>) -> Result<Wrong, AllocError>
-    ensures { IfOk result
-        (λ wrong. Some (problem_of wrong) ≡ problem_of_trouble (report_text report.now) Unknown) }
-{
+fn unknown(alloc: Global, report: &EventReport<&[u8]>) -> Result<Wrong, AllocError> {
     let task = woken_by(report.shown);
     let comm = Vec::from_slice(alloc, task.comm)?;
     Ok(Wrong::UnknownTask {
@@ -178,12 +168,7 @@ fn reservation_noted(parameters: Parameters) -> Option<Params>
 
 impl Keeper {
     /// A keeper of the tasks with these names.
-    pub(crate) fn new(alloc: Global, names: &[&[u8]]) -> Result<Keeper, AllocError>
-        ensures tasks { IfOk result
-            (λ keeper. (noted_text keeper).tasks ≡ tasks_given (map text_of names.now)) }
-        ensures reserved { IfOk result (λ keeper. (noted_text keeper).reserved ≡ []) }
-        ensures facts { IfOk result (λ keeper. (noted_text keeper).facts ≡ []) }
-    {
+    pub(crate) fn new(alloc: Global, names: &[&[u8]]) -> Result<Keeper, AllocError> {
         let tasks = GivenTasks::new(alloc, names)?;
         Ok(Keeper {
             alloc,
@@ -200,10 +185,7 @@ impl Keeper {
         task: Option<usize>,
         what: Option<What>,
     ) -> Result<(), AllocError>
-        ensures facts { OnOk result
-            (self.new.facts.items ≡ self.old.facts.items ++ fact_told line at task what) }
         ensures tasks { tasks_text self.new.tasks ≡ tasks_text self.old.tasks }
-        ensures reserved { self.new.reserved ≡ self.old.reserved }
     {
         if let Some(task) = task {
             if let Some(what) = what {
@@ -225,12 +207,10 @@ impl Keeper {
         report: &EventReport<&[u8]>,
         runqueues: u32,
     ) -> Result<Option<Wrong>, AllocError>
-        ensures fault { IfOk result
-            (λ wrong. option_map problem_of wrong ≡ problem_of_trouble (report_text report.now)
-            (trouble_of (report_text report.now) (noted_text self.old).tasks runqueues)) }
-        ensures noted { IfOk result (λ wrong. noted_text self.new
-            ≡ noted_by line (report_text report.now) (noted_text self.old)
-            (trouble_of (report_text report.now) (noted_text self.old).tasks runqueues)) }
+        ensures fault { IfOk result (λ wrong. is_some wrong
+            ≡ is_trouble (trouble_of (report_text report.now) (tasks_text self.old.tasks) runqueues)) }
+        ensures tasks { OnOk result (tasks_text self.new.tasks
+            ≡ tasks_after (report_text report.now) (tasks_text self.old.tasks)) }
     {
         let task = self.tasks.note(line, report)?;
         match trouble_told(report, task, runqueues) {
@@ -245,10 +225,10 @@ impl Keeper {
 
     /// One more task, which a note gives with this reservation, unless event files cannot have that.
     fn give(&mut self, pid: u64, parameters: Parameters) -> Result<Option<Wrong>, AllocError>
-        ensures fault { IfOk result (λ wrong. option_map problem_of wrong
-            ≡ reserving_problem (reservation_noted parameters)) }
-        ensures noted { IfOk result (λ wrong. noted_text self.new
-            ≡ given_noted pid (reservation_noted parameters) (noted_text self.old)) }
+        ensures fault { IfOk result
+            (λ wrong. is_some wrong ≡ is_none (reservation_noted parameters)) }
+        ensures tasks { OnOk result (tasks_text self.new.tasks
+            ≡ tasks_given pid (reservation_noted parameters) (tasks_text self.old.tasks)) }
     {
         match reservation_noted(parameters) {
             None => Ok(Some(Wrong::TooLong)),
@@ -266,8 +246,8 @@ impl Keeper {
         task: &Shown<&[u8]>,
         parameters: Parameters,
     ) -> Result<Option<Wrong>, AllocError>
-        ensures { IfOk result (λ wrong. outcome_of wrong (noted_text self.new)
-            ≡ reserving (shown_text task.now) parameters (noted_text self.old)) }
+        ensures { IfOk result (λ wrong. outcome_of wrong (tasks_text self.new.tasks)
+            ≡ reserving (shown_text task.now) parameters (tasks_text self.old.tasks)) }
     {
         if is_sugov(task.comm) {
             return Ok(None);
@@ -279,12 +259,7 @@ impl Keeper {
     }
 
     /// The facts, where each task was first shown, and the reservations of those that notes give.
-    pub(crate) fn finish(self) -> Result<(Vec<Fact>, Vec<Option<Found>>, Vec<Params>), AllocError>
-        ensures facts { IfOk result (λ r. r.0.items ≡ (noted_text self).facts) }
-        ensures found { IfOk result (λ r. map (option_map finding_text) r.1.items
-            ≡ map (λ (t : Task). t.found) (noted_text self).tasks) }
-        ensures reserved { IfOk result (λ r. r.2.items ≡ (noted_text self).reserved) }
-    {
+    pub(crate) fn finish(self) -> Result<(Vec<Fact>, Vec<Option<Found>>, Vec<Params>), AllocError> {
         let Keeper {
             tasks,
             facts,

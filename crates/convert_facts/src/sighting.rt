@@ -1,10 +1,5 @@
 //! What an event shows of a SCHED_DEADLINE task.
 
-ghost use Rattle.std.specs.Prelude.{◌≡◌, option_map};
-ghost use Rattle.trace_fields.specs.Shown.{shown_text};
-ghost use Rattle.convert_facts.specs.Census.{blocks_of, sighting_of};
-ghost use Rattle.convert_facts.specs.inside.Sightings.{sighting_text};
-
 use trace_data::{Fixed, Stop};
 use trace_fields::Shown;
 
@@ -18,9 +13,7 @@ pub struct TaskSighting<'a> {
 }
 
 /// A switch away is a block, unless the task stays ready.
-fn blocks_of(stop: Stop) -> u64
-    ensures { result ≡ blocks_of stop }
-{
+fn blocks_of(stop: Stop) -> u64 {
     match stop {
         Stop::Ready => 0,
         Stop::Blocks => 1,
@@ -33,9 +26,7 @@ pub(crate) fn sighting_of<'a>(
     own: u32,
     event: &Fixed,
     task: Shown<&'a [u8]>,
-) -> Option<TaskSighting<'a>>
-    ensures { option_map sighting_text result ≡ sighting_of own event.now (shown_text task.entry) }
-{
+) -> Option<TaskSighting<'a>> {
     match *event {
         Fixed::Woken {
             is_deadline: true,

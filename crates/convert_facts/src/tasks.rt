@@ -1,12 +1,10 @@
 //! The tasks that were given, and what lines show of them.
 
-ghost use Rattle.std.specs.Prelude.{◌≡◌, ◌<◌, ◌++◌, ◌∷◌, [], IfOk, IfSome, OnOk, if◌then◌else◌, map, option_map, position, vec_len};
+ghost use Rattle.std.specs.Prelude.{◌≡◌, ◌<◌, ◌++◌, ◌∷◌, [], IfOk, IfSome, OnOk, if◌then◌else◌, position, vec_len};
 ghost use Rattle.trace_fields.specs.Shown.{shown_text};
-ghost use Rattle.convert_facts.specs.Given.{Task, armed_after, arming, disowned, given_by, has_pid, has_timer, index_of, index_of_comm, index_of_timer, index_shown, index_timed, index_told, is_sugov, seeks, settled, showing, shown_index, task_of_pid, tasks_after, tasks_given};
-ghost use Rattle.convert_facts.specs.Keeping.{finding_text, given_text, tasks_text};
+ghost use Rattle.convert_facts.specs.Given.{armed_after, arming, disowned, has_pid, has_timer, index_of, index_of_comm, index_of_timer, index_shown, index_timed, index_told, is_sugov, seeks, settled, shown_index, task_of_pid, tasks_after};
+ghost use Rattle.convert_facts.specs.Keeping.{given_text, tasks_text};
 ghost use Rattle.convert_facts.specs.inside.Reports.{report_text};
-ghost use Rattle.trace_fields.specs.Numbers.{number};
-ghost use Rattle.trace_fields.specs.Words.{text_of};
 
 use crate::fact::Found;
 use crate::given::{GivenTask, is_sugov};
@@ -42,9 +40,7 @@ fn place_of_timer(given: &[GivenTask], timer: u64) -> Option<usize>
 
 impl GivenTasks {
     /// The tasks with these names.
-    pub(crate) fn new(alloc: Global, names: &[&[u8]]) -> Result<GivenTasks, AllocError>
-        ensures { IfOk result (λ tasks. tasks_text tasks ≡ tasks_given (map text_of names.now)) }
-    {
+    pub(crate) fn new(alloc: Global, names: &[&[u8]]) -> Result<GivenTasks, AllocError> {
         let mut tasks = GivenTasks {
             alloc,
             given: Vec::new(alloc),
@@ -56,20 +52,14 @@ impl GivenTasks {
     }
 
     /// One more task. Of two tasks with one pid the second is none that the trace shows.
-    fn give(&mut self, name: &[u8]) -> Result<(), AllocError>
-        ensures { OnOk result (tasks_text self.new ≡ tasks_text self.old
-            ++ given_by (number name.now) name.now (tasks_text self.old) ∷ []) }
-    {
+    fn give(&mut self, name: &[u8]) -> Result<(), AllocError> {
         let given = self.given_by(name)?;
         self.given.push(given)?;
         Ok(())
     }
 
     /// The task of this name, behind these.
-    fn given_by(&self, name: &[u8]) -> Result<GivenTask, AllocError>
-        ensures { IfOk result (λ given. given_text given
-            ≡ given_by (number name.now) name.now (tasks_text self.now)) }
-    {
+    fn given_by(&self, name: &[u8]) -> Result<GivenTask, AllocError> {
         match number(name) {
             None => Ok(GivenTask {
                 sought: Some(Vec::from_slice(self.alloc, name)?),
@@ -135,7 +125,7 @@ impl GivenTasks {
     /// The index of the task that a line shows, which is noted where it is the first to show it.
     fn show(&mut self, line: u64, shown: &Shown<&[u8]>) -> Result<Option<usize>, AllocError>
         ensures tasks { OnOk result
-            (tasks_text self.new ≡ showing line (shown_text shown.now) (tasks_text self.old)) }
+            (tasks_text self.new ≡ settled (tasks_text self.old) (shown_text shown.now)) }
         ensures index { IfOk result
             (λ i. i ≡ shown_index (tasks_text self.old) (shown_text shown.now)) }
     {
@@ -197,7 +187,7 @@ impl GivenTasks {
     fn note_shown(&mut self, line: u64, shown: &Shown<&[u8]>) -> Result<Option<usize>, AllocError>
         ensures tasks { OnOk result
             (tasks_text self.new ≡ (if is_sugov shown.now.comm.now then tasks_text self.old
-            else showing line (shown_text shown.now) (tasks_text self.old))) }
+            else settled (tasks_text self.old) (shown_text shown.now))) }
         ensures index { IfOk result
             (λ i. i ≡ index_shown (tasks_text self.old) (shown_text shown.now)) }
     {
@@ -237,7 +227,7 @@ impl GivenTasks {
     ) -> Result<Option<usize>, AllocError>
         ensures tasks { OnOk result
             (tasks_text self.new
-            ≡ tasks_after line (report_text report.now) (tasks_text self.old)) }
+            ≡ tasks_after (report_text report.now) (tasks_text self.old)) }
         ensures index { IfOk result
             (λ i. i ≡ index_told (report_text report.now) (tasks_text self.old)) }
     {
@@ -248,10 +238,7 @@ impl GivenTasks {
     }
 
     /// Where each task was first shown.
-    pub(crate) fn finish(self) -> Result<Vec<Option<Found>>, AllocError>
-        ensures { IfOk result (λ found. map (option_map finding_text) found.items
-            ≡ map (λ (t : Task). t.found) (tasks_text self)) }
-    {
+    pub(crate) fn finish(self) -> Result<Vec<Option<Found>>, AllocError> {
         let GivenTasks { alloc, given } = self;
         let mut found = Vec::with_capacity(alloc, given.len())?;
         for task in given {

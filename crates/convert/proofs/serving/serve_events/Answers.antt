@@ -1,8 +1,5 @@
-use Rattle.trace_faults.proofs.StatusLemmas.{of_done, of_fault}
+use Rattle.trace_faults.proofs.StatusLemmas.{of_done}
 use Rattle.convert.proofs.serving.serve_events.Goals as goal
 
 pub returns-clause-done : goal.returns-clause-done
-returns-clause-done g c done = of_done c.write_events-done.result c.told_status.result c.told_status.ensures.told done c.write_events-done.ensures.done
-
-pub returns-clause-nothing : goal.returns-clause-nothing
-returns-clause-nothing g c one = of_fault _ c.write_events-done.result c.told_status.result c.told_status.ensures.told one c.write_events-done.ensures.nothing
+returns-clause-done g c done = of_done c.write_events-done.result c.told_status.result c.told_status.ensures.told done c.write_events-done.ensures

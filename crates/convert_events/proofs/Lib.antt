@@ -1,3 +1,0 @@
-pub mod RuleLemmas
-pub mod OrderLemmas
-pub mod NameLemmas
