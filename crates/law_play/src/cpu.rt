@@ -79,14 +79,6 @@ impl Cpu {
         self.count.saturating_sub(count) <= BEFORE
     }
 
-    /// Whether the handler of the 0-lag timer of this task may run here.
-    fn handles(&self, pid: u64) -> bool {
-        match self.handled {
-            Some(handled) => handled == pid,
-            None => false,
-        }
-    }
-
     /// The entity whose block arms a 0-lag timer at the present line.
     pub fn blocked(&self) -> Option<Blocker> {
         match self.blocker {
@@ -129,7 +121,7 @@ impl Cpus {
 
     /// Whether the handler of the 0-lag timer of this task may run: `hrtimer_active` is true then, so a block arms no timer.
     pub fn handles(&self, pid: u64) -> bool {
-        self.cpus.iter().any(|cpu| cpu.handles(pid))
+        self.cpus.iter().any(|cpu| cpu.handled == Some(pid))
     }
 
     pub fn get_mut(&mut self, cpu: u32) -> Option<&mut Cpu> {

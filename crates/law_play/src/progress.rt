@@ -91,7 +91,7 @@ impl LawPlay {
         if !line.budget.is_throttled
             || line.flags & REPLENISH != 0
             || is_back
-            || is_special(&task)
+            || task.reservation.is_some_and(|it| it.is_special())
         {
             return Ok(());
         }
@@ -124,13 +124,6 @@ impl LawPlay {
             finding: Finding::NoTimer { fired },
             sign: sign_of(fired),
         })
-    }
-}
-
-fn is_special(task: &Task) -> bool {
-    match task.reservation {
-        Some(reservation) => reservation.is_special(),
-        None => false,
     }
 }
 
