@@ -1,6 +1,6 @@
 -- A record that was read whole, played to its end and of which nothing differs.
 use Rattle.std.proofs.Common.{◌≡◌, ◌≢◌, ℕ, Bool, refl, sym, ap, subst, ◌∙◌, List, [], Option, Some, None, map, option_map, IfSome}
-use Rattle.kernel_entity.specs.declared.charge.ChargeLaw.{ChargeLaw}
+use Rattle.kernel_rules.specs.declared.charge.ChargeLaw.{ChargeLaw}
 use Rattle.trace_options.specs.declared.options.CheckOptions.{CheckOptions}
 use Rattle.probe_run.specs.declared.rules.PlayRules.{PlayRules}
 use Rattle.probe_explain.specs.Taken.{IsExplainedWhere}

@@ -4,7 +4,7 @@ use Rattle.text_bytes.specs.Source.{Opener, Reader}
 use Rattle.trace_file.specs.Reading.{ComesTo, IsSoOf}
 use Rattle.trace_file.proofs.SoLemmas.{so_by}
 use Rattle.trace_lines.specs.declared.reader.Halt.{Halt}
-use Rattle.trace_faults.specs.declared.fault.Fault.{Fault}
+use Rattle.trace_options.specs.declared.fault.Fault.{Fault}
 use Rattle.check_record.specs.Reading.{HasShownFrom, ended_by}
 use Rattle.check_record.specs.Shown.{Shown, with_line}
 

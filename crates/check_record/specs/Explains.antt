@@ -1,8 +1,8 @@
 -- The lines of probes of a text are explained by the rules of the kernel.
 use Rattle.std.specs.Prelude.{◌≡◌, ◌≢◌, ℕ, Bool, true, false, if◌then◌else◌, List, [], map, unwrap_or}
-use Rattle.kernel_entity.specs.declared.charge.ChargeLaw.{ChargeLaw}
-use Rattle.kernel_entity.specs.declared.charge.ChargeLaw.TheVariants.{Documentation}
-use Rattle.kernel_versions.specs.Releases.{charge_law}
+use Rattle.kernel_rules.specs.declared.charge.ChargeLaw.{ChargeLaw}
+use Rattle.kernel_rules.specs.declared.charge.ChargeLaw.TheVariants.{Documentation}
+use Rattle.kernel_rules.specs.Releases.{charge_law}
 use Rattle.timer_play.specs.Kernels.{current}
 use Rattle.trace_options.specs.declared.options.CheckOptions.{CheckOptions}
 use Rattle.probe_run.specs.declared.rules.PlayRules.{PlayRules}

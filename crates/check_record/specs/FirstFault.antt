@@ -1,9 +1,9 @@
 -- What is a fault of a record, and of two faults the one that is told.
 use Rattle.std.specs.Prelude.{ℕ, ◌-◌, ◌^◌, Bool, true, false, ◌||◌, ◌==◌, nat_lt, if◌then◌else◌, Option, Some, None, Ok, Err}
 use Rattle.std.specs.declared.result.Result.{Result}
-use Rattle.trace_faults.specs.Faults.{line_of}
-use Rattle.trace_faults.specs.declared.fault.Fault.{Fault}
-use Rattle.trace_faults.specs.declared.fault.Fault.TheVariants as fault
+use Rattle.trace_options.specs.Faults.{line_of}
+use Rattle.trace_options.specs.declared.fault.Fault.{Fault}
+use Rattle.trace_options.specs.declared.fault.Fault.TheVariants as fault
 use Rattle.trace_data.specs.declared.fixed.Fixed.{Fixed}
 use Rattle.trace_data.specs.declared.fixed.Fixed.TheVariants as fixed
 use Rattle.trace_data.specs.declared.line.RecordLine.{RecordLine}

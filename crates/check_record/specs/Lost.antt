@@ -7,8 +7,8 @@ use Rattle.trace_data.specs.declared.note.Limit.{Limit}
 use Rattle.trace_data.specs.declared.note.Limit.TheVariants.{MaxBw, Runtime}
 use Rattle.trace_data.specs.declared.note.TraceNote.{TraceNote}
 use Rattle.trace_data.specs.declared.note.TraceNote.TheVariants as note
-use Rattle.trace_faults.specs.declared.fault.Fault.{Fault}
-use Rattle.trace_faults.specs.declared.fault.Fault.TheVariants as fault
+use Rattle.trace_options.specs.declared.fault.Fault.{Fault}
+use Rattle.trace_options.specs.declared.fault.Fault.TheVariants as fault
 
 -- a count that is full stays so
 abbrev pub counted_up : ℕ → ℕ → ℕ

@@ -1,6 +1,6 @@
 -- The lines of probes that came so far: those that are kept, or those that were played.
 use Rattle.std.specs.Prelude.{◌≡◌, Bool, not, ◌||◌, ◌==◌, List, length, Option, Some, None, is_some, option_map}
-use Rattle.kernel_entity.specs.declared.charge.ChargeLaw.{ChargeLaw}
+use Rattle.kernel_rules.specs.declared.charge.ChargeLaw.{ChargeLaw}
 use Rattle.probe_run.specs.declared.rules.PlayRules.{PlayRules}
 use Rattle.probe_explain.specs.Taken.{Taken}
 use Rattle.probe_explain.specs.declared.search.ProbeLine.{ProbeLine}

@@ -6,8 +6,8 @@ use Rattle.trace_lines.specs.declared.reader.Halt.{Halt}
 use Rattle.trace_lines.specs.Reading.{halt_at_end, reading}
 use Rattle.trace_data.specs.declared.line.Flaw.{Flaw}
 use Rattle.check_record.specs.Shown.{Shown, nothing_shown, with_line}
-use Rattle.trace_faults.specs.declared.fault.Fault.{Fault}
-use Rattle.trace_faults.specs.declared.fault.Fault.TheVariants as fault
+use Rattle.trace_options.specs.declared.fault.Fault.{Fault}
+use Rattle.trace_options.specs.declared.fault.Fault.TheVariants as fault
 
 -- what a line at which a text halts has to be told as
 abbrev pub halted_by : ℕ → Option Flaw → Result (Unit {0}) Fault

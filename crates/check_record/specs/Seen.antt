@@ -2,7 +2,7 @@
 use Rattle.std.specs.Prelude.{◌≡◌, false, IfSome, [], None, map}
 use Rattle.trace_options.specs.declared.options.CheckOptions.{CheckOptions}
 use Rattle.probe_explain.specs.Taken.{IsExplainedWhere}
-use Rattle.check_timers.specs.Timers.{timers_of}
+use Rattle.check_settings.specs.Timers.{timers_of}
 use Rattle.check_settings.specs.Heads.{law_by, told_of}
 use Rattle.check_record.specs.Playing.{AreSeenBy, IsEqual, IsPlayedBy, has_lines, lines_in, rules_in, taken_in}
 use Rattle.check_record.specs.Shown.{Shown, as_read}

@@ -18,10 +18,10 @@ use Rattle.check_settings.specs.Opening.{change_opens, changes_frequency, newcom
 use Rattle.check_settings.specs.declared.head.OpeningSign.{OpeningSign}
 use Rattle.check_settings.specs.declared.head.OpeningSign.TheVariants as signs
 use Rattle.check_settings.specs.declared.head.SumsOpened.{SumsOpened}
-use Rattle.check_timers.specs.Timers.{Timers, begun, forgotten, late_in, timers_at_first, with_event, with_note, with_shown}
-use Rattle.check_timers.specs.Wanted.{wanted_by}
-use Rattle.check_timers.specs.declared.timers.LateLine.{LateLine}
-use Rattle.check_timers.specs.declared.wanted.WantedLines.{WantedLines}
+use Rattle.check_settings.specs.Timers.{Timers, begun, forgotten, late_in, timers_at_first, with_event, with_note, with_shown}
+use Rattle.check_settings.specs.Wanted.{wanted_by}
+use Rattle.check_settings.specs.declared.timers.LateLine.{LateLine}
+use Rattle.check_settings.specs.declared.wanted.WantedLines.{WantedLines}
 use Rattle.check_record.specs.Lost.{is_behind_by}
 
 pub record Timed : Type 0 where

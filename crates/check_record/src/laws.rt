@@ -1,11 +1,11 @@
 //! The laws of a record, beside its rules.
 
-use kernel_entity::BW_UNIT;
+use kernel_rules::BW_UNIT;
 use law_findings::{AskedLaws, JudgedLaws, LawFigures, ReadLine};
 use law_play::LawPlay;
 use law_timers::TimerLaws;
 use std::alloc::{AllocError, Global};
-use task_figures::FigureLines;
+use law_verdict::FigureLines;
 use trace_data::{Fixed, Kernel, Limit, Probe, Said};
 
 /// What became of the laws in a record, and what is told beside them.

@@ -14,7 +14,7 @@ use probe_verdict::DroppedLines;
 use std::alloc::AllocError;
 use timer_play::RunqueueSums;
 use trace_data::{Limit, Policy, TraceNote};
-use trace_faults::Fault;
+use trace_options::Fault;
 use trace_lines::Lost as LostLines;
 
 impl Gathering<'_> {

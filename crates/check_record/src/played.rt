@@ -5,7 +5,7 @@ ghost use Rattle.probe_explain.specs.Taken.{IsExplainedWhere};
 ghost use Rattle.check_record.specs.Playing.{AreSeenBy, IsPlayedBy};
 
 use crate::names::Names;
-use kernel_entity::ChargeLaw;
+use kernel_rules::ChargeLaw;
 use probe_explain::{Player, ProbeLine};
 use probe_search::ProbeSearch;
 use probe_start::{Assumed, RecordLook, StartNotes};

@@ -10,12 +10,11 @@ ghost use Rattle.check_record.specs.Playing.{AreSeenBy, IsPlayedBy, has_lines, l
 use crate::names::Names;
 use crate::played::Played;
 use check_settings::RecordHead;
-use kernel_entity::ChargeLaw;
+use kernel_rules::ChargeLaw;
 use probe_explain::ProbeLine;
 use probe_findings::{Broken, Deviation, Findings, KindCounts, Laws};
-use probe_marks::Marks;
+use probe_verdict::{Marks, put_row, total_of};
 use probe_start::{RecordLook, StartNotes};
-use probe_verdict::{put_row, total_of};
 use std::alloc::{AllocError, Global};
 use std::collections::HashMap;
 use trace_data::Probe;

@@ -9,7 +9,7 @@ ghost use Rattle.check_record.specs.Seen.{shown_in};
 use crate::gathering::Gathering;
 use std::alloc::{AllocError, Global};
 use std::io;
-use trace_faults::Fault;
+use trace_options::Fault;
 use trace_file::{ReadFault, read_lines};
 use trace_lines::Halt;
 

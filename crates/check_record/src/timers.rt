@@ -9,13 +9,12 @@ ghost use Rattle.check_record.specs.Timed.{cpus_seen, event_kept, event_of, is_p
 ghost use Rattle.timer_record.specs.Kept.{kept_of};
 
 use crate::gathering::Gathering;
-use check_settings::{OpeningSign, newcomer};
-use check_timers::{WantedLines, wanted_by};
+use check_settings::{OpeningSign, WantedLines, newcomer, wanted_by};
 use law_findings::ReadLine;
 use std::alloc::AllocError;
 use timer_record::{OpenRecord, Unlisted};
 use trace_data::Fixed;
-use trace_faults::Fault;
+use trace_options::Fault;
 
 impl<'o> Gathering<'o> {
     /// A line shows this pid with this comm; a task may have another one later.

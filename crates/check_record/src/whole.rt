@@ -12,8 +12,7 @@ use crate::reading::{first_fault, knows_tasks, read_trace};
 use law_findings::AskedLaws;
 use std::alloc::{AllocError, Global};
 use std::io;
-use trace_faults::Fault;
-use trace_options::CheckOptions;
+use trace_options::{CheckOptions, Fault};
 
 /// How a record is to be read.
 #[derive(Clone, Copy)]

@@ -2,10 +2,9 @@
 
 use crate::laws::{spread_of, task_of};
 use crate::report::CheckReport;
-use law_verdict::TaskName;
+use law_verdict::{CpuLeft, TaskFigures, TaskName};
 use serde_json::{Value, json};
 use std::alloc::{AllocError, Global};
-use task_figures::{CpuLeft, TaskFigures};
 
 /// Adds what each task had, and what was left of each CPU.
 pub fn add_tasks(

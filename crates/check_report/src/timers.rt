@@ -4,7 +4,7 @@ use crate::probes::marks_of;
 use crate::record::{cpus_of, kernel_of, release_of, task_of};
 use crate::report::CheckReport;
 use crate::words::number_or_null;
-use probe_marks::MarkCount;
+use probe_verdict::MarkCount;
 use serde_json::{Value, json};
 use std::alloc::{AllocError, Global};
 use timer_record::KeptLines;

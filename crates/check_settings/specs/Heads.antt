@@ -8,13 +8,13 @@ use Rattle.trace_options.specs.declared.options.Arithmetic.TheVariants as arithm
 use Rattle.trace_options.specs.declared.options.CheckOptions.{CheckOptions}
 use Rattle.trace_options.specs.declared.words.FairServerOption.{FairServerOption}
 use Rattle.trace_options.specs.declared.words.FairServerOption.TheVariants.{Usual, Absent, Reserves}
-use Rattle.kernel_entity.specs.Clock.{ratio_of}
-use Rattle.kernel_entity.specs.declared.charge.ChargeLaw.{ChargeLaw}
+use Rattle.kernel_rules.specs.Clock.{ratio_of}
+use Rattle.kernel_rules.specs.declared.charge.ChargeLaw.{ChargeLaw}
 use Rattle.probe_findings.specs.declared.settings.LawSettings.{LawSettings}
 use Rattle.probe_findings.specs.declared.settings.ServerNote.{ServerNote}
 use Rattle.trace_data.specs.declared.note.ServerReservation.{ServerReservation}
 use Rattle.trace_data.specs.declared.quantities.Sums.{Sums}
-use Rattle.kernel_versions.specs.Releases.{has_servers}
+use Rattle.kernel_rules.specs.Releases.{has_servers}
 use Rattle.timer_play.specs.declared.setup.FairServer.{FairServer}
 use Rattle.timer_play.specs.declared.setup.FairServer.TheVariants as fair
 use Rattle.timer_play.specs.declared.setup.KernelSettings.{KernelSettings}

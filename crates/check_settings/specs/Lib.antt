@@ -1,2 +1,5 @@
 pub mod Heads
 pub mod Opening
+pub mod Sought
+pub mod Timers
+pub mod Wanted

@@ -5,8 +5,7 @@ ghost use Rattle.std.specs.List.{list_any};
 ghost use Rattle.check_settings.specs.Heads.{bandwidth_by, chosen, cpus_from, domain_by, first_server, has_servers_by, is_documented, is_in_range, is_note_of, is_of_domain, is_older_by, kernel_by, lacks_cpu, last_by, law_by, law_settings_by, listed_in, max_bw_by, max_bw_in, nothing_told, open_from, opened_by, release_by, server_by, server_note, settings_by, tells_cpus, told_of};
 ghost use Rattle.trace_options.specs.Words.{domain_in};
 
-use kernel_entity::{BW_UNIT, ChargeLaw, ratio};
-use kernel_versions::{charge_law, has_servers};
+use kernel_rules::{BW_UNIT, ChargeLaw, charge_law, has_servers, ratio};
 use probe_findings::{LawSettings, ServerNote};
 use probe_start::{CpuNote, StartNotes, note_of, put_note};
 use std::alloc::{AllocError, Global};

@@ -6,7 +6,7 @@ use Rattle.std.proofs.lemmas.List.{length-append, map_more}
 use Rattle.std.proofs.lemmas.List.Elements.{All-push}
 use Rattle.std.proofs.lemmas.Slice.Zip.{all_zipped_more}
 use Rattle.convert.specs.Serving.{event_paths}
-use Rattle.trace_faults.specs.Messages.{event_path}
+use Rattle.trace_options.specs.Messages.{event_path}
 
 -- one element more
 pub all_next : {A B : Type 0} (P : B → Type 0) (f : A → B) (xs : List A) (i : ℕ) (x : A) → i < length xs → x ≡ get_or xs i x → All P (map f (take i xs)) → P (f x) → All P (map f (take (i + 1) xs))

@@ -5,7 +5,7 @@ use Rattle.std.specs.Io.KnownBytes.{Appends}
 use Rattle.std.specs.List.{AllZip}
 use Rattle.std.specs.declared.result.Result.{Result}
 use Rattle.std.specs.declared.io.Error.{Error}
-use Rattle.trace_faults.specs.Messages.{event_path}
+use Rattle.trace_options.specs.Messages.{event_path}
 use Rattle.trace_file.specs.declared.files.Target.{Target}
 use denote.Ref.{Bor}
 

@@ -2,7 +2,7 @@
 
 use convert_facts::{LineFault, Wrong};
 use trace_data::Flaw;
-use trace_faults::Fault;
+use trace_options::Fault;
 
 /// The fault of the first line with one.
 pub(crate) fn fault_from<'a>(fault: LineFault) -> Fault<'a> {

@@ -3,11 +3,11 @@
 ghost use Rattle.std.specs.Prelude.{◌≡◌, length};
 
 use crate::options::{ConvertOptions, FairReservation, TaskReservation, admitted};
-use convert_events::{
+use crate::{
     Declared, OrderFault, Setting, TimedEvent, event_file, names_of, place_facts, queue_of, umax_of,
 };
 use convert_facts::{Fact, Facts, Found};
-use grub_bw::{BW_UNIT, Params};
+use grub_book::{BW_UNIT, Params};
 use std::alloc::{AllocError, Global};
 use trace_data::{Kernel, Limit};
 
@@ -79,7 +79,7 @@ fn most_of(options: &ConvertOptions<'_>, facts: &Facts) -> u32 {
 fn has_servers(kernel: Option<Kernel>) -> bool {
     match kernel {
         None => true,
-        Some(kernel) => kernel_versions::has_servers(kernel),
+        Some(kernel) => kernel_rules::has_servers(kernel),
     }
 }
 

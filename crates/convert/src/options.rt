@@ -1,7 +1,7 @@
 //! What the words of options say.
 
-use convert_events::umax_of;
-use grub_bw::Params;
+use crate::umax_of;
+use grub_book::Params;
 use std::alloc::{AllocError, Global};
 use trace_options::{CheckOption, WrongOption, last_parts};
 use trace_probes::numeral;

@@ -1,12 +1,11 @@
 //! What a trace tells.
 
-use crate::fault::fault_from;
-use crate::options::ConvertOptions;
+use crate::{fault::fault_from, options::ConvertOptions};
 use convert_facts::{Census, FactLines, Facts, ShownTasks};
 use std::alloc::{AllocError, Global};
 use std::io;
 use text_bytes::Source;
-use trace_faults::Fault;
+use trace_options::Fault;
 use trace_file::{ReadFault, read_lines};
 
 /// Why a trace was not read.

@@ -3,14 +3,12 @@
 ghost use Rattle.std.specs.Prelude.{◌≡◌, ◌⊎◌, None, IfErr, IfOk, OnOk, length, map, string_bytes};
 ghost use Rattle.grub_plan.specs.Contents.{contents};
 ghost use Rattle.convert.specs.Serving.{AreFree, AreMade, MakesEvents, Prints, event_paths};
-ghost use Rattle.trace_faults.specs.Faults.{status_of};
-ghost use Rattle.trace_faults.specs.Messages.{event_path};
-ghost use Rattle.trace_faults.specs.declared.fault.TheConstants.{STATUS_FILE, STATUS_SYSTEM};
+ghost use Rattle.trace_options.specs.Faults.{status_of};
+ghost use Rattle.trace_options.specs.Messages.{event_path};
+ghost use Rattle.trace_options.specs.declared.fault.TheConstants.{STATUS_FILE, STATUS_SYSTEM};
 
-use crate::census::tasks_text;
-use crate::fault::fault_from;
+use crate::{census::tasks_text, fault::fault_from, options::ConvertOptions};
 use crate::files::{FilesFault, event_files};
-use crate::options::ConvertOptions;
 use crate::pieces::{read_facts, read_tasks};
 use convert_facts::LineFault;
 use std::alloc::{AllocError, Global};
@@ -18,7 +16,7 @@ use std::io;
 use std::io::Write;
 use text_bytes::Source;
 use trace_data::Flaw;
-use trace_faults::{Fault, told_status};
+use trace_options::{Fault, told_status};
 use trace_file::{Files, Target};
 
 /// The path of the event file of a runqueue.

@@ -4,7 +4,7 @@ use Rattle.std.specs.Prelude.{ℕ, zero, suc, ◌/◌, Bool, true, false, not, �
 use Rattle.std.specs.Option.{option_or}
 use Rattle.std.specs.List.{starts_with}
 use Rattle.std.specs.Str.{bytes_eq}
-use Rattle.grub_bw.specs.Bandwidth.{Reservation, reservation_fits}
+use Rattle.grub_book.specs.Bandwidth.{Reservation, reservation_fits}
 use Rattle.trace_fields.specs.declared.shown.Shown.{Shown}
 use Rattle.trace_data.specs.declared.fixed.Fixed.{Fixed}
 use Rattle.trace_data.specs.declared.fixed.Fixed.TheVariants.{Woken, Migrated, TimerStarted, TimerCancelled, TimerFired}

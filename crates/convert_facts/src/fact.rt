@@ -1,7 +1,7 @@
 //! Facts: what a trace tells of the tasks that were given, by options or by its own notes.
 
 use crate::fault::LineFault;
-use grub_bw::Params;
+use grub_book::Params;
 use trace_data::{Kernel, Limit, Stop};
 
 /// What a line tells of a task.

@@ -12,7 +12,7 @@ use crate::fault::Wrong;
 use crate::given::is_sugov;
 use crate::report::{EventReport, is_zero_lag};
 use crate::tasks::GivenTasks;
-use grub_bw::Params;
+use grub_book::Params;
 use std::alloc::{AllocError, Global};
 use trace_data::{Fixed, Parameters};
 use trace_fields::Shown;

@@ -1,8 +1,8 @@
 -- Which replies a call gives under a claim.
 use Rattle.std.proofs.Common.{◌≡◌, ℕ, ◌+◌, ◌==◌, ◌&&◌, nat_lt, true, false, Option, Some, None, refl}
-use Rattle.grub_bw.specs.Bandwidth.{Reservation, Capacity, bandwidth_of}
-use Rattle.grub_bw.specs.Server.{charge_of, depleted_of}
-use Rattle.grub_bw.specs.declared.server.Server.{Server}
+use Rattle.grub_book.specs.Bandwidth.{Reservation, Capacity, bandwidth_of}
+use Rattle.grub_book.specs.Server.{charge_of, depleted_of}
+use Rattle.grub_book.specs.declared.server.Server.{Server}
 use Rattle.grub_book.specs.Machine.{Machine, queue_at}
 use Rattle.grub_book.specs.Sums.{Records, record_at, reading_of}
 use Rattle.grub_book.specs.declared.rules.TheConstants.{COUNT_MAX}

@@ -1,12 +1,10 @@
 //! What a task adds to the bandwidths of a runqueue.
 
 ghost use Rattle.std.specs.Prelude.{◌≡◌, ◌≤◌, ◌^◌, if◌then◌else◌};
-ghost use Rattle.grub_bw.specs.Bandwidth.{bandwidth_of};
+ghost use Rattle.grub_book.specs.Bandwidth.{bandwidth_of};
 ghost use Rattle.grub_book.specs.Totals.{Counts, shifted_of};
 
-use crate::event::Reading;
-use crate::place::Record;
-use grub_bw::Params;
+use crate::{Params, event::Reading, place::Record};
 
 /// The reading of runqueue `r` after a task's record became another: the bandwidth that the old record added to
 /// running_bw and this_bw goes, and what the new one adds comes.

@@ -1,8 +1,7 @@
 //! The library in ten lines: two tasks that reserve half a processor each, and the first blocks with budget left.
 #![tactic(auto)]
 
-use grub_book::{Book, Op, Setup};
-use grub_bw::{Params, Queue};
+use grub_book::{Book, Op, Params, Queue, Setup};
 
 fn main(rt: HostRuntime) -> anyhow::Result<()> {
     let alloc = rt.alloc();

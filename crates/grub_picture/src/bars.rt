@@ -2,7 +2,7 @@
 
 use grub_book::{Place, Reply, State};
 use grub_plan::Answer;
-use grub_steps::{Change, Step};
+use grub_timeline::{Change, Step};
 use std::alloc::{AllocError, Global};
 use svg::{Bar, Frame};
 

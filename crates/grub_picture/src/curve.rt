@@ -1,7 +1,7 @@
 //! The curves of a runqueue: its bandwidths over time.
 
 use grub_book::Reading;
-use grub_steps::Step;
+use grub_timeline::Step;
 use std::alloc::{AllocError, Global};
 use svg::{Frame, LEFT, height_of, put_number, put_text};
 

@@ -3,7 +3,7 @@
 ghost use Rattle.std.specs.Prelude.{◌<◌, ◌≤◌, All, IfOk, length, vec_len};
 
 use crate::bars::{are_seen, bars_of};
-use grub_steps::Step;
+use grub_timeline::Step;
 use std::alloc::{AllocError, Global};
 use svg::Frame;
 

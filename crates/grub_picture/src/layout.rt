@@ -7,7 +7,7 @@ use crate::curve::{CurvePoint, points_of};
 use crate::lane::{lanes_of, own_of};
 use crate::tick::{Tick, ticks_of};
 use grub_plan::Plan;
-use grub_steps::{Step, steps_of_task};
+use grub_timeline::{Step, steps_of_task};
 use std::alloc::{AllocError, Global};
 use svg::{Bar, Frame, Rect, rect_of};
 

@@ -2,14 +2,13 @@
 
 ghost use Rattle.std.specs.Prelude.{◌≡◌, ◌+◌, ◌<◌, ◌≤◌, ◌^◌, max, length, IfOk, vec_len};
 ghost use Rattle.grub_timeline.specs.TimeLines.{AreWithin, IsTimeLine};
-ghost use Rattle.grub_steps.specs.Fitting.{AreToldIn};
+ghost use Rattle.grub_timeline.specs.Fitting.{AreToldIn};
 ghost use Rattle.grub_picture.specs.Picture.{IsDocument, last_moment};
 
 use crate::drawing::{bottom_of, put_queues};
 use crate::layout::{Scene, layout_of, owns_of};
 use grub_plan::Plan;
-use grub_steps::{ViewFault, replay};
-use grub_timeline::{TimeLine, ToldEntry};
+use grub_timeline::{TimeLine, ToldEntry, ViewFault, replay};
 use std::alloc::{AllocError, Global};
 use svg::{Frame, put_axis, put_head, put_number, put_text};
 

@@ -1,7 +1,7 @@
 //! The ticks of a lane: where deadlines were postponed.
 
 use crate::bars::postponed;
-use grub_steps::Step;
+use grub_timeline::Step;
 use std::alloc::{AllocError, Global};
 use svg::{Frame, put_number, put_text};
 

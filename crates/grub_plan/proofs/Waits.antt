@@ -1,9 +1,9 @@
 -- Only a block waits.
 use Rattle.std.proofs.Common.{◌≡◌, ℕ, ◌+◌, ◌<◌, ◌&&◌, nat_lt, Bool, true, false, cond, Option, Some, None, refl, ap, subst}
 use Rattle.std.proofs.lemmas.Bool.{ltb-true}
-use Rattle.grub_bw.specs.Bandwidth.{Reservation, Capacity, bandwidth_of}
-use Rattle.grub_bw.specs.Server.{charge_of, depleted_of}
-use Rattle.grub_bw.specs.declared.server.Server.{Server}
+use Rattle.grub_book.specs.Bandwidth.{Reservation, Capacity, bandwidth_of}
+use Rattle.grub_book.specs.Server.{charge_of, depleted_of}
+use Rattle.grub_book.specs.declared.server.Server.{Server}
 use Rattle.grub_book.specs.Machine.{Machine, queue_at}
 use Rattle.grub_book.specs.Sums.{Records, record_at, reading_of}
 use Rattle.grub_book.specs.Step.{is_inactive, is_under_claim, refused, runqueue_of, settled, arrived, charged, lag_moment, step}

@@ -1,9 +1,9 @@
 -- What every plan keeps.
 use Rattle.std.specs.Prelude.{◌≡◌, ℕ, ◌≤◌, ◌<◌, List, [], ◌∷◌, length, true}
 use Rattle.std.specs.List.{AllByRecursion}
-use Rattle.grub_bw.specs.declared.server.TheConstants.{MOMENT_MAX}
+use Rattle.grub_book.specs.declared.server.TheConstants.{MOMENT_MAX}
 use Rattle.grub_book.specs.declared.op.TheConstants.{RUN_MAX}
-use Rattle.grub_bw.specs.Bandwidth.{IsReservation}
+use Rattle.grub_book.specs.Bandwidth.{IsReservation}
 use Rattle.grub_book.specs.Machine.{IsMachine}
 use Rattle.grub_plan.specs.declared.line.Act.{Act}
 use Rattle.grub_plan.specs.declared.line.Act.TheVariants.{Join, Wake, Block, Leave, Exit, Run, Retune, Read}

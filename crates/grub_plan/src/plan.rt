@@ -5,8 +5,7 @@ ghost use Rattle.grub_plan.specs.Limits.{PlanFits, ScriptFits};
 ghost use Rattle.grub_plan.specs.Names.{is_name};
 
 use crate::line::Line;
-use grub_book::Setup;
-use grub_bw::{Params, Queue};
+use grub_book::{Params, Queue, Setup};
 use std::marker::Model;
 
 /// What event files say: a runqueue and a script for each file, and the tasks of all files.

@@ -9,7 +9,7 @@ use Rattle.grub_plan.specs.Plans.{PlanView}
 use Rattle.grub_trace.specs.Tree.{Tree}
 use Rattle.grub_views.specs.Lines.{timeline_lines}
 use Rattle.grub_picture.specs.Picture.{IsDocument, last_moment}
-use Rattle.grub_steps.specs.Replay.{steps_of}
+use Rattle.grub_timeline.specs.Replay.{steps_of}
 use Rattle.grub_views.specs.Rows.{step_rows}
 use Rattle.grub_run.specs.declared.view.FileView.{FileView}
 use Rattle.grub_run.specs.declared.view.FileView.TheVariants.{Timeline, Steps, Summary, Picture}

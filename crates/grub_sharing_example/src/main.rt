@@ -13,8 +13,7 @@ ghost use Rattle.grub_table.specs.Calls.{number_of, seen, terms, IsBehind, IsPas
 ghost use Rattle.grub_table.specs.Knowing.{GoesOn};
 
 use anyhow::{Context, Result};
-use grub_book::{Op, Reading, Reply, Setup};
-use grub_bw::{Params, Queue};
+use grub_book::{Op, Params, Queue, Reading, Reply, Setup};
 use grub_table::{Finished, Pass, Shared, Started, closing_readings_are_sound, one_pass_makes_all};
 use std::alloc::Global;
 use std::sync::Wait;

@@ -7,7 +7,7 @@ use prog.Atomic.{either}
 use Rattle.atomic_table.specs.Table.{State}
 use Rattle.atomic_table.proofs.Lists.{exchanged}
 use Rattle.std.proofs.lemmas.Bool.{ne_eqb, both_ways}
-use Rattle.grub_bw.specs.Bandwidth.{Capacity, Reservation, IsReservation, bandwidth_of}
+use Rattle.grub_book.specs.Bandwidth.{Capacity, Reservation, IsReservation, bandwidth_of}
 use Rattle.grub_book.specs.Machine.{queue_at}
 use Rattle.grub_book.specs.Op.{IsOp}
 use Rattle.grub_book.specs.Sound.{IsKept}
@@ -29,9 +29,9 @@ use Rattle.grub_book.proofs.Refusals.{settling, refused_same}
 use Rattle.grub_book.proofs.Readings.{step_unchanged, step_elsewhere}
 use Rattle.grub_book.proofs.Tallies.{running_le_this}
 use Rattle.grub_book.proofs.Totals.{counts_each, shifted_set}
-use Rattle.grub_words.specs.Words.{queue_word, server_word, params_word, QueueFits, ServerFits}
-use Rattle.grub_words.proofs.Bounds.{ServerFits-kept}
-use Rattle.grub_words.proofs.Halves.{same_queue}
+use Rattle.grub_table.specs.Words.{queue_word, server_word, params_word, QueueFits, ServerFits}
+use Rattle.grub_table.proofs.Bounds.{ServerFits-kept}
+use Rattle.grub_table.proofs.Halves.{same_queue}
 use Rattle.grub_table.specs.declared.shared.Shared.{Shared}
 use Rattle.grub_table.specs.declared.seated.Seated.{Seated}
 use Rattle.grub_table.specs.declared.view.Hold.{Hold}

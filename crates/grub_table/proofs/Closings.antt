@@ -11,8 +11,8 @@ use Rattle.std.proofs.lemmas.List.Elements.{All-from_recursion}
 use Rattle.atomic_table.specs.Table.{State}
 use Rattle.grub_book.specs.declared.event.Event.{Event}
 use Rattle.grub_book.specs.declared.event.Reading.{Reading}
-use Rattle.grub_words.specs.Words.{queue_word, QueueFits}
-use Rattle.grub_words.proofs.Halves.{same_queue}
+use Rattle.grub_table.specs.Words.{queue_word, QueueFits}
+use Rattle.grub_table.proofs.Halves.{same_queue}
 use Rattle.grub_table.specs.declared.pass.Pass.{Pass}
 use Rattle.grub_table.specs.declared.shared.Shared.{Shared}
 use Rattle.grub_table.specs.declared.view.Mark.{Mark}

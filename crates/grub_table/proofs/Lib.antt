@@ -17,3 +17,7 @@ pub mod Meets
 pub mod Closings
 pub mod Tries
 pub mod Brief
+pub mod Found
+pub mod Halves
+pub mod Tasks
+pub mod Bounds

@@ -13,8 +13,8 @@ use Rattle.grub_book.specs.Sound.{IsSound}
 use Rattle.grub_book.specs.declared.event.Event.{Event}
 use Rattle.grub_book.proofs.Histories.{starts_whole, starts_after}
 use Rattle.grub_book.proofs.Soundness.{sound_legal}
-use Rattle.grub_words.specs.Words.{QueueFits}
-use Rattle.grub_words.proofs.Bounds.{QueueFits-sound}
+use Rattle.grub_table.specs.Words.{QueueFits}
+use Rattle.grub_table.proofs.Bounds.{QueueFits-sound}
 use Rattle.grub_table.specs.declared.view.Share.{Share}
 use Rattle.grub_table.specs.declared.view.Terms.{Terms}
 use Rattle.grub_table.specs.declared.view.View.{View}

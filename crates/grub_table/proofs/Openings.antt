@@ -13,7 +13,7 @@ use Rattle.grub_book.specs.Sums.{opening_record, opening_book, record_at}
 use Rattle.grub_book.specs.declared.place.Place.TheVariants.{Away}
 use Rattle.grub_book.specs.History.{pass_of}
 use Rattle.grub_book.proofs.Totals.{opening_totals}
-use Rattle.grub_words.specs.Words.{queue_word, task_word}
+use Rattle.grub_table.specs.Words.{queue_word, task_word}
 use Rattle.grub_table.specs.declared.pass.Pass.{Pass}
 use Rattle.grub_table.specs.declared.shared.Shared.{Shared}
 use Rattle.grub_table.specs.declared.view.Hold.TheVariants.{Free}

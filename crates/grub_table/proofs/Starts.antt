@@ -7,10 +7,10 @@ use Rattle.grub_book.specs.declared.op.Op.TheVariants.{Join, Wake, Block, Leave,
 use Rattle.grub_book.specs.declared.place.Record.{Record}
 use Rattle.grub_book.specs.declared.reply.Reply.{Reply}
 use Rattle.grub_book.specs.declared.reply.Reply.TheVariants.{Early, Full}
-use Rattle.grub_words.specs.Words.{task_word, PlaceFits}
-use Rattle.grub_words.specs.declared.task.TaskWord.{TaskWord}
-use Rattle.grub_words.proofs.Bounds.{PlaceFits-kept}
-use Rattle.grub_words.proofs.Tasks.{same_fields}
+use Rattle.grub_table.specs.Words.{task_word, PlaceFits}
+use Rattle.grub_table.specs.declared.task.TaskWord.{TaskWord}
+use Rattle.grub_table.proofs.Bounds.{PlaceFits-kept}
+use Rattle.grub_table.proofs.Tasks.{same_fields}
 use Rattle.grub_table.specs.declared.shared.Shared.{Shared}
 use Rattle.grub_table.specs.declared.view.Mark.TheVariants.{Taken, Given}
 use Rattle.grub_table.specs.Calls.{marks_of_call}

@@ -23,8 +23,8 @@ use Rattle.grub_book.specs.declared.place.Record.{Record}
 use Rattle.grub_book.specs.declared.reply.Reply.{Reply}
 use Rattle.grub_book.proofs.Histories.{book_push, starts_whole, starts_next}
 use Rattle.grub_book.proofs.Soundness.{moved}
-use Rattle.grub_words.specs.Words.{queue_word, task_word, QueueFits}
-use Rattle.grub_words.proofs.Tasks.{task_word-claimed, claims_apart}
+use Rattle.grub_table.specs.Words.{queue_word, task_word, QueueFits}
+use Rattle.grub_table.proofs.Tasks.{task_word-claimed, claims_apart}
 use Rattle.grub_table.specs.declared.shared.Shared.{Shared}
 use Rattle.grub_table.specs.declared.seated.Seated.{Seated}
 use Rattle.grub_table.specs.declared.view.Hold.{Hold}

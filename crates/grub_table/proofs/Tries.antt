@@ -1,9 +1,9 @@
 -- What the steps of a call under a claim tell together.
 use Rattle.std.proofs.Common.{◌≡◌, ℕ, ◌+◌, ◌<◌, ◌≤◌, Bool, true, false, List, [], ◌∷◌, length, sym, refl, ap, ◌∙◌, subst, arith, Option, Some, None}
 use Rattle.std.proofs.lemmas.Bool.{both_ways}
-use Rattle.grub_bw.specs.Bandwidth.{Capacity, bandwidth_of}
-use Rattle.grub_bw.specs.Server.{charge_of, depleted_of}
-use Rattle.grub_bw.specs.declared.server.Server.{Server}
+use Rattle.grub_book.specs.Bandwidth.{Capacity, bandwidth_of}
+use Rattle.grub_book.specs.Server.{charge_of, depleted_of}
+use Rattle.grub_book.specs.declared.server.Server.{Server}
 use Rattle.grub_book.specs.Op.{IsOp}
 use Rattle.grub_book.specs.History.{HasChanged, pass_of}
 use Rattle.grub_book.specs.Sound.{IsKept}

@@ -2,7 +2,7 @@
 use Rattle.std.specs.Prelude.{ℕ, ◌+◌, ◌*◌, length, Bool}
 use Rattle.grub_book.specs.Machine.{Machine}
 use Rattle.grub_book.specs.declared.place.Record.{Record}
-use Rattle.grub_words.specs.Words.{task_word}
+use Rattle.grub_table.specs.Words.{task_word}
 
 -- how many words a runqueue or a task has to itself
 abbrev pub spacing : ℕ

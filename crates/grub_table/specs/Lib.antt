@@ -9,3 +9,4 @@ pub mod Messages
 pub mod Trails
 pub mod Accesses
 pub mod inside
+pub mod Words

@@ -5,7 +5,7 @@ ghost use Rattle.grub_book.specs.Step.{changes_sum, runqueue_of, LooksAtQueue};
 ghost use Rattle.grub_book.specs.Totals.{shifted_of};
 ghost use Rattle.grub_book.specs.declared.op.Op.{Op};
 ghost use Rattle.grub_book.specs.declared.place.Record.{Record};
-ghost use Rattle.grub_words.specs.Words.{queue_word, server_word, params_word, QueueFits, ServerFits};
+ghost use Rattle.grub_table.specs.Words.{queue_word, server_word, params_word, QueueFits, ServerFits};
 ghost use Rattle.grub_table.specs.declared.view.Access.TheVariants.{Store, Load, Exchange};
 ghost use Rattle.grub_table.specs.declared.view.Stored.{Stored};
 ghost use Rattle.grub_table.specs.inside.Between.{HoldsFor, HoldsMade, HoldsSome, HoldsTask, Tells};
@@ -16,18 +16,11 @@ ghost use Rattle.grub_table.specs.inside.Tellings.{is_decided_at_load, outcome, 
 ghost use Rattle.grub_table.specs.inside.Brief.{changed_server, changed_store, TriesOnce};
 ghost use Rattle.grub_table.specs.inside.Tries.{half_stored, is_charge, KnowsNoMore, Tried};
 
-use crate::answer::Finished;
-use crate::claim::Claim;
-use crate::pass::Pass;
+use crate::{answer::Finished, claim::Claim, pack_params, pack_queue, pack_server, pass::Pass, rule::Telling, seated::Seated, shared::Shared};
 use crate::row::{
     free_word, params_word_at, queue_word_at, reading_in, server_word_at, task_word_at,
 };
-use crate::rule::Telling;
-use crate::seated::Seated;
-use crate::shared::Shared;
-use grub_book::{Op, Reading, Record, Reply, changes_sum, runqueue, settle, shifted};
-use grub_bw::{Params, Server};
-use grub_words::{pack_params, pack_queue, pack_server};
+use grub_book::{Op, Params, Reading, Record, Reply, Server, changes_sum, runqueue, settle, shifted};
 
 /// Whether the reply stands as soon as the runqueue's word is loaded.
 #[inline(always)]

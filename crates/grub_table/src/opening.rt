@@ -6,17 +6,11 @@ ghost use Rattle.grub_table.specs.Calls.{terms, AreNew, IsOpened};
 ghost use Rattle.grub_table.specs.inside.FirstWords.{AreOpeningWords};
 ghost use Rattle.grub_table.specs.inside.Trails.{first_trail};
 
-use crate::counted::CountedTable;
-use crate::fault::OpenFault;
-use crate::pass::Pass;
+use crate::{counted::CountedTable, fault::OpenFault, pack_params, pack_server, pass::Pass, seated::Seated, shared::Shared};
 use crate::row::{SPACING, params_word_at, server_word_at};
-use crate::seated::Seated;
-use crate::shared::Shared;
 use crate::view::{Note, Terms, Trail};
 use atomic_table::Seat;
-use grub_book::{Op, Setup};
-use grub_bw::{Params, Queue, Server};
-use grub_words::{pack_params, pack_server};
+use grub_book::{Op, Params, Queue, Server, Setup};
 use std::alloc::{AllocError, Global};
 
 /// The most passes.

@@ -1,7 +1,7 @@
 //! Readings of runqueues, and the meeting of two passes.
 ghost use Rattle.std.specs.Prelude.{◌≡◌, ◌<◌, ◌⊎◌, [], ◌∷◌, ◌++◌, length};
 ghost use Rattle.grub_book.specs.declared.event.Event.TheVariants.{Look};
-ghost use Rattle.grub_words.specs.Words.{queue_word, QueueFits};
+ghost use Rattle.grub_table.specs.Words.{queue_word, QueueFits};
 ghost use Rattle.grub_table.specs.declared.view.Access.TheVariants.{Load};
 ghost use Rattle.grub_table.specs.inside.Between.{Tells};
 ghost use Rattle.grub_book.specs.History.{pass_of};
@@ -13,12 +13,9 @@ ghost use Rattle.grub_table.specs.Accesses.{meeting_loads};
 ghost use Rattle.grub_table.specs.Histories.{EndsWith};
 ghost use Rattle.grub_table.specs.Knowing.{Learns};
 
-use crate::claim::Claim;
-use crate::pass::Pass;
+use crate::{claim::Claim, pass::Pass, seated::Seated, shared::Shared};
 use crate::row::{queue_word_at, reading_in};
 use crate::rule::{Compare, Telling};
-use crate::seated::Seated;
-use crate::shared::Shared;
 use grub_book::Reading;
 
 /// The load of a runqueue's reading for `read`: a look in the history.

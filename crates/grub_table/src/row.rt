@@ -1,18 +1,17 @@
 //! Which word of the row is whose, and what is in it.
 ghost use Rattle.std.specs.Prelude.{◌≡◌, ℕ, ◌<◌, ◌≤◌, ◌+◌, ◌*◌, false, IfSome, IsNone, ◌≢◌};
 ghost use Rattle.grub_book.specs.declared.rules.TheConstants.{COUNT_MAX};
-ghost use Rattle.grub_bw.specs.Bandwidth.{Reservation, IsReservation};
-ghost use Rattle.grub_bw.specs.declared.server.Server.{Server};
+ghost use Rattle.grub_book.specs.Bandwidth.{Reservation, IsReservation};
+ghost use Rattle.grub_book.specs.declared.server.Server.{Server};
 ghost use Rattle.grub_book.specs.Machine.{IsMachine};
 ghost use Rattle.grub_book.specs.declared.event.Reading.{Reading};
 ghost use Rattle.grub_book.specs.declared.place.Place.{Place};
-ghost use Rattle.grub_words.specs.Words.{queue_word, server_word, params_word, task_word, PlaceFits, QueueFits, ServerFits, TaskFits};
+ghost use Rattle.grub_table.specs.Words.{queue_word, server_word, params_word, task_word, PlaceFits, QueueFits, ServerFits, TaskFits};
 ghost use Rattle.grub_table.specs.Layout.{queue_word_at, task_word_at, shown};
 ghost use Rattle.grub_table.specs.inside.Layout.{server_word_at, params_word_at};
 
-use grub_book::{Reading, Record, Setup};
-use grub_bw::{Params, Server};
-use grub_words::{TaskWord, pack_task, unpack_params, unpack_queue, unpack_server, unpack_task};
+use grub_book::{Params, Reading, Record, Server, Setup};
+use crate::{TaskWord, pack_task, unpack_params, unpack_queue, unpack_server, unpack_task};
 
 /// How many words a runqueue or a task has to itself: 128 bytes.
 pub(crate) const SPACING: usize = 16;

@@ -1,10 +1,10 @@
 //! A call begins: it is answered at once, or takes its task.
 ghost use Rattle.std.specs.Prelude.{◌≡◌, ◌<◌, false, IfOk, [], ◌∷◌, ◌++◌, length, ◌==◌};
-ghost use Rattle.grub_bw.specs.Bandwidth.{IsReservation};
+ghost use Rattle.grub_book.specs.Bandwidth.{IsReservation};
 ghost use Rattle.grub_book.specs.Op.{IsOp};
 ghost use Rattle.grub_book.specs.declared.op.Op.{Op};
 ghost use Rattle.grub_book.specs.declared.place.Record.{Record};
-ghost use Rattle.grub_words.specs.Words.{TaskFits, server_word, params_word, task_word, ServerFits};
+ghost use Rattle.grub_table.specs.Words.{TaskFits, server_word, params_word, task_word, ServerFits};
 ghost use Rattle.grub_table.specs.declared.view.Access.TheVariants.{Load, Exchange};
 ghost use Rattle.grub_table.specs.declared.view.Hold.TheVariants.{Free};
 ghost use Rattle.grub_table.specs.inside.Between.{hold_of, HoldsFor, HoldsTask, Tells, SawTask, SawRecord};
@@ -15,16 +15,9 @@ ghost use Rattle.grub_table.specs.inside.Tellings.{note_of, Of, LoadedTask, Took
 ghost use Rattle.grub_table.specs.Accesses.{StartsBriefly};
 
 use crate::answer::{Sighting, Started};
-use crate::claim::Claim;
-use crate::pass::Pass;
+use crate::{TaskWord, claim::Claim, pack_task, pass::Pass, rule::Telling, seated::Seated, shared::Shared, view::Note};
 use crate::row::{params_in, params_word_at, server_in, server_word_at, task_word_at, unclaimed};
-use crate::rule::Telling;
-use crate::seated::Seated;
-use crate::shared::Shared;
-use crate::view::Note;
-use grub_book::{Op, Record, early, refusal};
-use grub_bw::{Params, Server};
-use grub_words::{TaskWord, pack_task};
+use grub_book::{Op, Params, Record, Server, early, refusal};
 use std::marker::{Brand, PhantomData};
 
 /// For which call a load of a task's word is made: its task and op. `start` says it where it makes the load, by a ghost value, since a load says

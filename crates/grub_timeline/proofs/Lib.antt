@@ -15,3 +15,5 @@ pub mod Rising
 pub mod Moments
 pub mod OneFile
 pub mod Sending
+pub mod Stepping
+pub mod Viewing

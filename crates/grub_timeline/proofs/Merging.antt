@@ -8,7 +8,7 @@ use Rattle.std.proofs.lemmas.List.Elements.{All-from_recursion, All-get_or, All-
 use Rattle.std.proofs.lemmas.Option.{get_or_from_slice_get, same_Some, slice_get_within}
 use mathlib.Core.Logic.{dite}
 use native.Mathlib.Decide.{ℕ_discrete}
-use Rattle.grub_bw.specs.declared.server.TheConstants.{MOMENT_MAX}
+use Rattle.grub_book.specs.declared.server.TheConstants.{MOMENT_MAX}
 use Rattle.grub_plan.specs.Limits.{ActFits, PlanFits, ScriptFits}
 use Rattle.grub_plan.specs.Plans.{Line, PlanView, script_at}
 use Rattle.grub_timeline.specs.declared.order.PlacedLine.{PlacedLine}

@@ -2,3 +2,7 @@ pub mod Order
 pub mod TimeLines
 pub mod Messages
 pub mod inside
+pub mod Fitting
+pub mod ViewMessages
+pub mod Past
+pub mod Replay

@@ -1,7 +1,7 @@
 //! Timers that are due.
 ghost use Rattle.std.specs.Prelude.{◌≤◌, ◌+◌, vec_len, vec_capacity};
 ghost use Rattle.std.specs.FinMap as map;
-ghost use Rattle.grub_bw.specs.declared.server.TheConstants.{MOMENT_MAX};
+ghost use Rattle.grub_book.specs.declared.server.TheConstants.{MOMENT_MAX};
 ghost use Rattle.grub_plan.specs.Asked.{AsksDue};
 ghost use Rattle.grub_timeline.specs.TimeLines.{entries_of};
 ghost use Rattle.grub_timeline.specs.inside.Playing.{GoesOnAt, IsNotPast, IsPlaying, Plays};

@@ -11,7 +11,7 @@ use Rattle.text_bytes.specs.Lines.{is_end, words_of, parts_of}
 use Rattle.text_bytes.specs.Digits.{value}
 use Rattle.text_bytes.proofs.Splits.{has_part}
 use Rattle.std.proofs.lemmas.List.Splits.{join_with_byte-slice_split}
-use Rattle.grub_bw.specs.Bandwidth.{Capacity, IsCapacity, capacity_fits}
+use Rattle.grub_book.specs.Bandwidth.{Capacity, IsCapacity, capacity_fits}
 use Rattle.grub_trace.proofs.LimitTests.{capacity_is}
 use Rattle.grub_trace.specs.declared.version.Version.{Version}
 use Rattle.grub_trace.specs.declared.fault.Kind.{Kind}

@@ -4,7 +4,7 @@ use Rattle.std.specs.Global.{Vec}
 use Rattle.std.proofs.lemmas.List.{drop_all, length_push, map_push, drop_more}
 use Rattle.grub_trace.specs.declared.fault.Kind.TheVariants.{UnknownTask}
 use Rattle.grub_trace.specs.declared.raw.RawFile.{RawFile}
-use Rattle.grub_bw.specs.Bandwidth.{Capacity, Reservation}
+use Rattle.grub_book.specs.Bandwidth.{Capacity, Reservation}
 use Rattle.std.specs.Prelude.{string_bytes}
 use Rattle.grub_trace.specs.declared.tasks.Task.{Task}
 use Rattle.grub_trace.specs.declared.tasks.Tasks.{Tasks}

@@ -2,7 +2,7 @@
 use Rattle.std.proofs.Common.{◌≡◌, ℕ, ◌+◌, ◌<◌, ◌≤◌, Bool, true, false, cond, List, [], ◌∷◌, ◌++◌, length, map, Option, Some, None, option_map, refl, ap, ◌∙◌, sym, arith, subst}
 use Rattle.std.proofs.lemmas.Option.{same_Some}
 use Rattle.std.specs.Prelude.{IsSome, Ok}
-use Rattle.grub_bw.specs.declared.server.TheConstants.{MOMENT_MAX}
+use Rattle.grub_book.specs.declared.server.TheConstants.{MOMENT_MAX}
 use Rattle.grub_book.specs.declared.op.TheConstants.{RUN_MAX}
 use Rattle.grub_trace.specs.inside.Reading.{plan_from}
 use Rattle.grub_trace.proofs.PlanLaws.{plan_read}
@@ -10,7 +10,7 @@ use Rattle.std.specs.Str.{bytes_eq}
 use Rattle.std.specs.List.{AllByRecursion, filter_map, cons_option}
 use Rattle.std.proofs.lemmas.List.{length-append, length-map}
 use Rattle.std.proofs.lemmas.List.Elements.{All-from_recursion, All-get_or}
-use Rattle.grub_bw.specs.Bandwidth.{IsReservation, IsCapacity}
+use Rattle.grub_book.specs.Bandwidth.{IsReservation, IsCapacity}
 use Rattle.std.proofs.lemmas.Bool.Decides.{nat_tests}
 use Rattle.grub_trace.specs.declared.version.Version.{Version}
 use Rattle.grub_plan.specs.declared.line.Act.{Act}

@@ -2,9 +2,9 @@
 use Rattle.std.proofs.Common.{◌≡◌, true, ◌&&◌, refl}
 use Rattle.std.proofs.lemmas.Bool.{and_parts, le-leb, leb-true}
 use Rattle.std.specs.Prelude.{nat_le}
-use Rattle.grub_bw.specs.declared.queue.TheConstants.{BW_UNIT}
-use Rattle.grub_bw.specs.declared.params.TheConstants.{PERIOD_MAX}
-use Rattle.grub_bw.specs.Bandwidth.{Reservation, Capacity, IsReservation, IsCapacity, bandwidth_of, reservation_fits, capacity_fits}
+use Rattle.grub_book.specs.declared.queue.TheConstants.{BW_UNIT}
+use Rattle.grub_book.specs.declared.params.TheConstants.{PERIOD_MAX}
+use Rattle.grub_book.specs.Bandwidth.{Reservation, Capacity, IsReservation, IsCapacity, bandwidth_of, reservation_fits, capacity_fits}
 
 pub capacity_is : (c : Capacity) → capacity_fits c ≡ true → IsCapacity c
 capacity_is c h =

@@ -1,7 +1,7 @@
 -- Reading lines one after the other.
 use Rattle.std.proofs.Common.{◌≡◌, ℕ, Bool, true, false, ◌+◌, ◌<◌, List, [], ◌∷◌, length, Result, Ok, Err, refl, sym, ap, ◌∙◌, arith, cond, not, ◌&&◌, eqb, subst}
 use Rattle.std.specs.Prelude.{MatchResult}
-use Rattle.grub_bw.specs.Bandwidth.{Capacity, reservation_fits}
+use Rattle.grub_book.specs.Bandwidth.{Capacity, reservation_fits}
 use Rattle.grub_trace.specs.declared.version.Version.{Version}
 use Rattle.grub_trace.specs.declared.fault.Kind.{Kind}
 use Rattle.grub_trace.specs.declared.fault.Kind.TheVariants.{CutShort, BadHeader, BadLine, BadNumber, OutOfRange, DuplicateTask, MomentGoesBack}
@@ -22,7 +22,7 @@ use Rattle.std.specs.Borrow.{Bor}
 use Rattle.std.specs.Prelude.{nat_le, nat_lt, is_none, ◌++◌}
 use Rattle.std.proofs.Math.Bool.{and-true, and_assoc}
 use Rattle.std.proofs.lemmas.Bool.Decides.{nat_tests}
-use Rattle.grub_bw.specs.Bandwidth.{Reservation}
+use Rattle.grub_book.specs.Bandwidth.{Reservation}
 use Rattle.grub_trace.specs.Naming.{task_of}
 use Rattle.grub_trace.specs.inside.Lines.{GivesLine, TakesAct, plain_fault}
 use Rattle.grub_trace.specs.Faults.{form_fault, is_timely, last_of}

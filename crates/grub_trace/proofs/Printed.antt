@@ -10,7 +10,7 @@ use Rattle.std.proofs.lemmas.List.{length-map}
 use Rattle.std.proofs.lemmas.Bool.Decides.{nat_tests}
 use Rattle.std.proofs.lemmas.Bool.{lt-ltb, eqb-true}
 use Rattle.std.proofs.lemmas.Fmt.{digits_decimal, digits_value-decimal, decimal_nonempty, first_decimal, decimal_digit}
-use Rattle.grub_bw.specs.Bandwidth.{Reservation, Capacity, IsCapacity}
+use Rattle.grub_book.specs.Bandwidth.{Reservation, Capacity, IsCapacity}
 use Rattle.grub_trace.proofs.LimitTests.{reservation_test, capacity_test}
 use Rattle.grub_trace.specs.declared.version.Version.{Version}
 use Rattle.grub_trace.specs.declared.fault.Kind.{Kind}

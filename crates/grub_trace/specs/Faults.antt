@@ -3,7 +3,7 @@ use Rattle.std.specs.Prelude.{ℕ, Bool, true, false, not, ◌&&◌, nat_le, nat
 use Rattle.std.specs.List.{list_all}
 use Rattle.std.specs.Str.{bytes_eq}
 use Rattle.grub_book.specs.declared.setup.TheConstants.{TASKS_MAX}
-use Rattle.grub_bw.specs.Bandwidth.{reservation_fits, capacity_fits}
+use Rattle.grub_book.specs.Bandwidth.{reservation_fits, capacity_fits}
 use Rattle.grub_trace.specs.declared.version.Version.{Version}
 use Rattle.grub_trace.specs.declared.fault.Kind.{Kind}
 use Rattle.grub_trace.specs.declared.fault.Kind.TheVariants.{BadHeader, BadLine, BadNumber, OutOfRange, DuplicateTask, MomentGoesBack, MissingQueue}

@@ -4,7 +4,7 @@ use Rattle.std.specs.List.{list_all}
 use Rattle.std.specs.Str.{bytes_eq}
 use Rattle.std.specs.Char.{is_ascii_digit}
 use Rattle.text_bytes.specs.Digits.{value}
-use Rattle.grub_bw.specs.Bandwidth.{Reservation, Capacity}
+use Rattle.grub_book.specs.Bandwidth.{Reservation, Capacity}
 use Rattle.grub_plan.specs.declared.line.Act.{Act}
 use Rattle.grub_plan.specs.declared.line.Act.TheVariants.{Join, Wake, Block, Leave, Exit, Run, Retune, Read}
 use Rattle.grub_trace.specs.declared.version.Version.{Version}

@@ -1,5 +1,5 @@
 -- From names to numbers, and the plan of trees.
-use Rattle.grub_bw.specs.Bandwidth.{Capacity}
+use Rattle.grub_book.specs.Bandwidth.{Capacity}
 use Rattle.grub_plan.specs.Plans.{Line, PlanView}
 use Rattle.std.specs.Prelude.{ℕ, ◌+◌, List, [], ◌∷◌, map, Option, Some, None, if◌then◌else◌, option_map}
 use Rattle.std.specs.List.{filter_map, flat_map}

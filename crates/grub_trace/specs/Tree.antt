@@ -2,8 +2,8 @@
 use Rattle.std.specs.Prelude.{ℕ, Bool, true, false, ◌&&◌, nat_le, List, [], ◌∷◌, ◌++◌, map, codes, decimal}
 use Rattle.std.specs.List.{flat_map, join_with_byte}
 use Rattle.grub_book.specs.declared.op.TheConstants.{RUN_MAX}
-use Rattle.grub_bw.specs.declared.server.TheConstants.{MOMENT_MAX}
-use Rattle.grub_bw.specs.Bandwidth.{Reservation, Capacity}
+use Rattle.grub_book.specs.declared.server.TheConstants.{MOMENT_MAX}
+use Rattle.grub_book.specs.Bandwidth.{Reservation, Capacity}
 use Rattle.grub_plan.specs.declared.line.Act.{Act}
 use Rattle.grub_plan.specs.declared.line.Act.TheVariants as act
 use Rattle.grub_plan.specs.declared.line.Line as lines

@@ -1,7 +1,7 @@
 //! The head of a file: its version, its runqueue, and the tasks that it declares.
 
 ghost use Rattle.std.specs.Prelude.{◌≡◌, Err, IfOk, IfSome, is_some};
-ghost use Rattle.grub_bw.specs.Bandwidth.{capacity_fits};
+ghost use Rattle.grub_book.specs.Bandwidth.{capacity_fits};
 ghost use Rattle.grub_trace.specs.declared.fault.TraceFault.TheVariants.{NoMemory};
 ghost use Rattle.grub_trace.specs.Forms.{version_of};
 ghost use Rattle.text_bytes.specs.Lines.{parts_of};
@@ -14,7 +14,7 @@ use crate::number::number;
 use crate::raw::Head;
 use crate::tasks::{Tasks, declare};
 use crate::version::{Version, version_of};
-use grub_bw::Queue;
+use grub_book::Queue;
 use std::alloc::Global;
 use text_bytes::{first_line, first_word};
 

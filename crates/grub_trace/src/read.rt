@@ -16,7 +16,7 @@ use crate::fault::{Kind, Location, TraceFault};
 use crate::heads::{Heads, read_by_threads, read_heads, read_in_turn};
 use crate::raw::RawFile;
 use crate::tasks::{Task, Tasks};
-use grub_bw::{Params, Queue};
+use grub_book::{Params, Queue};
 use grub_plan::{Line, Plan};
 use std::alloc::Global;
 use std::thread::Threads;

@@ -2,7 +2,7 @@
 
 ghost use Rattle.std.specs.Prelude.{◌≡◌, ◌<◌, length, ◌∷◌, [], ◌++◌, Err, OnOk, IfSome, None, is_some, true};
 ghost use Rattle.grub_book.specs.declared.setup.TheConstants.{TASKS_MAX};
-ghost use Rattle.grub_bw.specs.Bandwidth.{reservation_fits};
+ghost use Rattle.grub_book.specs.Bandwidth.{reservation_fits};
 ghost use Rattle.grub_plan.specs.Names.{is_name};
 ghost use Rattle.grub_trace.specs.Tree.{names_of};
 ghost use Rattle.grub_trace.specs.Naming.{task_of};
@@ -11,8 +11,7 @@ ghost use Rattle.grub_trace.specs.Forms.{reservation_value};
 
 use crate::fault::{Kind, Location, TraceFault};
 use crate::number::number;
-use grub_book::TASKS_MAX;
-use grub_bw::Params;
+use grub_book::{Params, TASKS_MAX};
 use std::alloc::{AllocError, Global};
 use std::collections::HashMap;
 

@@ -9,11 +9,11 @@ use Rattle.grub_book.specs.History.{IsLegal}
 use Rattle.grub_plan.specs.Plans.{PlanView, IsAskOf}
 use Rattle.grub_timeline.specs.TimeLines.{AreAnswered, AreWithin, history_of}
 use Rattle.grub_timeline.specs.declared.told.ToldEntry.{ToldEntry}
-use Rattle.grub_steps.specs.Fitting.{AreToldIn, IsToldIn}
-use Rattle.grub_steps.specs.Past.{book_past}
-use Rattle.grub_steps.specs.Replay.{book_after, step_of, steps_from, steps_of}
+use Rattle.grub_timeline.specs.Fitting.{AreToldIn, IsToldIn}
+use Rattle.grub_timeline.specs.Past.{book_past}
+use Rattle.grub_timeline.specs.Replay.{book_after, step_of, steps_from, steps_of}
 use Rattle.grub_views.specs.Rows.{step_row}
-use Rattle.grub_steps.proofs.Viewing.{legal_within}
+use Rattle.grub_timeline.proofs.Viewing.{legal_within}
 
 pub steps_more : (s : Machine) (book : Records) (xs ys : List ToldEntry) → steps_from s book (xs ++ ys) ≡ steps_from s book xs ++ steps_from s (book_past s book xs) ys
 steps_more s book [] ys = refl

@@ -3,3 +3,4 @@ pub mod Handing
 pub mod Closing
 pub mod Chunking
 pub mod Viewed
+pub mod Counting

@@ -14,8 +14,8 @@ use Rattle.grub_plan.specs.declared.entry.Answer.TheVariants.{Replied, Seen, Bus
 use Rattle.grub_plan.specs.Plans.{PlanView, name_at}
 use Rattle.grub_plan.specs.Texts.{ask_text, reply_text}
 use Rattle.grub_timeline.specs.declared.told.ToldEntry.{ToldEntry}
-use Rattle.grub_steps.specs.Replay.{steps_of}
-use Rattle.grub_steps.specs.declared.book_steps.Step.{Step}
+use Rattle.grub_timeline.specs.Replay.{steps_of}
+use Rattle.grub_timeline.specs.declared.book_steps.Step.{Step}
 use Rattle.grub_views.specs.declared.row.AnswerNumbers.{AnswerNumbers}
 
 abbrev pub first_word : List ℕ → List ℕ

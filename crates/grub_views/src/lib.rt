@@ -8,8 +8,14 @@ mod rest;
 mod row;
 mod rows;
 mod step_maker;
+mod summary;
+mod sums;
+mod table;
+mod tally;
+mod usage;
 
 pub use line_room::LineRoom;
 pub use lines::write_timeline;
 pub use rows::write_steps;
 pub use step_maker::StepMaker;
+pub use summary::summary_text;

@@ -4,12 +4,12 @@ ghost use Rattle.std.specs.Prelude.{◌≡◌, ◌+◌, ◌≤◌, ◌++◌, ◌
 ghost use Rattle.std.specs.List.{flat_map, join_with_byte};
 ghost use Rattle.grub_plan.specs.declared.name.TheConstants.{NAME_MAX};
 ghost use Rattle.grub_plan.specs.Plans.{IsAskOf};
-ghost use Rattle.grub_steps.specs.Fitting.{IsToldIn};
+ghost use Rattle.grub_timeline.specs.Fitting.{IsToldIn};
 ghost use Rattle.grub_views.specs.Rows.{answer_numbers, answer_word, arg_field, ask_word, asked_fields, number_field, number_fields, reply_numbers, reply_word, step_row, task_field};
 
 use grub_book::{Op, Reply};
 use grub_plan::{Answer, Ask, Plan};
-use grub_steps::Step;
+use grub_timeline::Step;
 use text_bytes::{LINE_MAX, append, append_number};
 
 /// The numbers of an answer, where it has them.

@@ -4,19 +4,14 @@ ghost use Rattle.std.specs.Prelude.{◌≡◌, ◌+◌, ◌≤◌, [], OnOk, OnE
 ghost use Rattle.std.specs.List.{flat_map};
 ghost use Rattle.grub_book.specs.Sums.{opening_book};
 ghost use Rattle.text_bytes.specs.Writing.{HandsOn, HandsPart};
-ghost use Rattle.grub_steps.specs.Fitting.{AreToldIn, IsToldIn};
-ghost use Rattle.grub_steps.specs.Past.{book_past};
-ghost use Rattle.grub_steps.specs.Replay.{steps_from, steps_of};
+ghost use Rattle.grub_timeline.specs.Fitting.{AreToldIn, IsToldIn};
+ghost use Rattle.grub_timeline.specs.Past.{book_past};
+ghost use Rattle.grub_timeline.specs.Replay.{steps_from, steps_of};
 ghost use Rattle.grub_views.specs.Rows.{HandsOnSteps, HandsPartOfSteps, header, step_row};
 
-use crate::beside::play_beside;
-use crate::line_room::LineRoom;
-use crate::rest::play_out;
-use crate::row::append_step;
-use crate::step_maker::StepMaker;
+use crate::{beside::play_beside, line_room::LineRoom, rest::play_out, row::append_step, step_maker::StepMaker};
 use grub_plan::Plan;
-use grub_steps::Step;
-use grub_timeline::Playing;
+use grub_timeline::{Playing, Step};
 use std::io;
 use std::io::Write;
 use std::thread::Threads;

@@ -1,13 +1,12 @@
 //! Makes the steps of a time line while it is played.
 
 ghost use Rattle.std.specs.Prelude.{◌≡◌, ◌≤◌, vec_len, vec_capacity};
-ghost use Rattle.grub_steps.specs.Fitting.{AreToldIn};
-ghost use Rattle.grub_steps.specs.Past.{book_past};
-ghost use Rattle.grub_steps.specs.Replay.{steps_from};
+ghost use Rattle.grub_timeline.specs.Fitting.{AreToldIn};
+ghost use Rattle.grub_timeline.specs.Past.{book_past};
+ghost use Rattle.grub_timeline.specs.Replay.{steps_from};
 
 use grub_book::Book;
-use grub_steps::{Step, fill_steps};
-use grub_timeline::ToldEntry;
+use grub_timeline::{Step, ToldEntry, fill_steps};
 
 /// Makes the steps of a time line while it is played: it asks a book again what the entries asked.
 #[derive(Drop)]

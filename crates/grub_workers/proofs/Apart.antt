@@ -6,9 +6,9 @@ use Rattle.std.proofs.lemmas.List.{get_or-set_same}
 use Rattle.std.proofs.lemmas.List.Elements.{All-head, All-tail}
 use mathlib.Core.Logic.{dite}
 use native.Mathlib.Decide.{ℕ_discrete}
-use Rattle.grub_bw.specs.Bandwidth.{Capacity, Reservation, bandwidth_of}
-use Rattle.grub_bw.specs.Server.{charge_of, depleted_of}
-use Rattle.grub_bw.specs.declared.server.Server.{Server}
+use Rattle.grub_book.specs.Bandwidth.{Capacity, Reservation, bandwidth_of}
+use Rattle.grub_book.specs.Server.{charge_of, depleted_of}
+use Rattle.grub_book.specs.declared.server.Server.{Server}
 use Rattle.grub_book.specs.Machine.{Machine, queue_at}
 use Rattle.grub_book.specs.Op.{IsOp}
 use Rattle.grub_book.specs.Sums.{Records, is_active_on, is_on, reading_of, record_at, share_of}

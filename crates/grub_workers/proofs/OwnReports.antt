@@ -7,7 +7,7 @@ use Rattle.std.proofs.lemmas.List.Elements.{All-append, All-cons, All-head, All-
 use Rattle.std.proofs.lemmas.Option.{get_or_from_slice_get, slice_get-get_or, slice_get-map, slice_get_within}
 use mathlib.Core.Logic.{dite}
 use native.Mathlib.Decide.{ℕ_discrete}
-use Rattle.grub_bw.specs.Bandwidth.{Reservation}
+use Rattle.grub_book.specs.Bandwidth.{Reservation}
 use Rattle.grub_book.specs.Machine.{Machine}
 use Rattle.grub_book.specs.Step.{changes_sum, is_inactive, refused, runqueue_of}
 use Rattle.grub_book.specs.Sums.{opening_book, opening_record, reading_of}

@@ -1,6 +1,6 @@
 //! Timers that are due.
 ghost use Rattle.std.specs.Prelude.{◌≡◌, ◌<◌, ◌≤◌, Some, IfOk};
-ghost use Rattle.grub_bw.specs.declared.server.TheConstants.{MOMENT_MAX};
+ghost use Rattle.grub_book.specs.declared.server.TheConstants.{MOMENT_MAX};
 ghost use Rattle.grub_plan.specs.Asked.{AsksDue};
 ghost use Rattle.grub_workers.specs.inside.Working.{IsAtWork, IsNotPast};
 

@@ -1,6 +1,6 @@
 //! A script, line by line.
 ghost use Rattle.std.specs.Prelude.{◌≡◌, ◌<◌, ◌≤◌, [], Some, None, IfOk, length};
-ghost use Rattle.grub_bw.specs.declared.server.TheConstants.{MOMENT_MAX};
+ghost use Rattle.grub_book.specs.declared.server.TheConstants.{MOMENT_MAX};
 ghost use Rattle.grub_plan.specs.Asked.{Asked, AsksLine, Follows, JoinsAfter};
 ghost use Rattle.grub_plan.specs.Limits.{ActFits, ScriptFits};
 ghost use Rattle.grub_table.specs.Calls.{terms};

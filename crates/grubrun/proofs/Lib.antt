@@ -1,2 +1,4 @@
 pub mod Paths
 pub mod Served
+pub mod CommandLemmas
+pub mod RoundsLemmas

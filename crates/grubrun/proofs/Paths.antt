@@ -3,7 +3,7 @@ use Rattle.std.proofs.Common.{◌≡◌, ◌∙◌, ℕ, List, [], codes, map, u
 use Rattle.clap.proofs.WalkLemmas.{raw_values-rows}
 use Rattle.clap.specs.Words.{matched_of, raw_values, rows_of}
 use Rattle.clap.specs.declared.parser.matches.Found.{Found}
-use Rattle.grubrun_command.specs.inside.Files.{names_among}
+use Rattle.grubrun.specs.inside.Files.{names_among}
 use Rattle.grub_run.specs.Faults.{names_of}
 
 -- the values that were found, or none

@@ -11,8 +11,8 @@ use Rattle.grub_run.specs.Shown.{IsShown}
 use Rattle.grub_run.specs.declared.view.FileView.{FileView as Shown}
 use Rattle.grub_run.specs.Faults as faults
 use Rattle.grub_run.specs.Faults.{HasFileFault, Whole}
-use Rattle.grubrun_command.specs.CommandLine.{ReadsNumber, TriesNamed, command_line, files_named, view_named}
-use Rattle.grubrun_command.specs.inside.Files.{names_among}
+use Rattle.grubrun.specs.CommandLine.{ReadsNumber, TriesNamed, command_line, files_named, view_named}
+use Rattle.grubrun.specs.inside.Files.{names_among}
 use Rattle.grubrun.specs.Statuses.{AsksFor, HasNoSpan, IsWanted, PrintsAsked}
 use Rattle.grubrun.specs.Views.{IsMistake, IsRefused, Wants, wanted_of}
 use Rattle.grubrun.specs.declared.view.Wanted.{Wanted}

@@ -7,8 +7,8 @@ use Rattle.grub_run.specs.Written.{IsOutput}
 use Rattle.grub_run.specs.Shown.{IsShown}
 use Rattle.grub_run.specs.Faults as faults
 use Rattle.grub_run.specs.Faults.{Whole}
-use Rattle.grubrun_command.specs.declared.texts.TheConstants.{HELP, VERSION}
-use Rattle.grubrun_command.specs.CommandLine.{AsksForHelp, AsksForVersion, TriesNamed, files_named}
+use Rattle.grubrun.specs.declared.texts.TheConstants.{HELP, VERSION}
+use Rattle.grubrun.specs.CommandLine.{AsksForHelp, AsksForVersion, TriesNamed, files_named}
 use Rattle.grubrun.specs.Views.{Wants}
 use Rattle.grubrun.specs.declared.view.Wanted.{Wanted}
 use Rattle.grubrun.specs.declared.view.Wanted.TheVariants as wishes

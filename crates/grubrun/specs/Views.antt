@@ -1,9 +1,9 @@
 -- What the words ask to be printed: reports, or a view of the time line.
 use Rattle.std.specs.Prelude.{◌≡◌, ◌⊎◌, ℕ, List, [], Option, None, Some, codes, nat_le, unwrap_or, ⊤, if◌then◌else◌}
 use Rattle.clap.specs.Words.{Text, fault_of}
-use Rattle.grubrun_command.specs.CommandLine.{MomentNamed, command_line, view_named}
-use Rattle.grubrun_command.specs.declared.view_word.ViewWord.{ViewWord}
-use Rattle.grubrun_command.specs.declared.view_word.ViewWord.TheVariants.{Timeline, Steps, Summary, Picture, Unknown}
+use Rattle.grubrun.specs.CommandLine.{MomentNamed, command_line, view_named}
+use Rattle.grubrun.specs.declared.view_word.ViewWord.{ViewWord}
+use Rattle.grubrun.specs.declared.view_word.ViewWord.TheVariants.{Timeline, Steps, Summary, Picture, Unknown}
 use Rattle.grub_run.specs.declared.view.FileView.TheVariants as views
 use Rattle.grubrun.specs.declared.view.Wanted.{Wanted}
 use Rattle.grubrun.specs.declared.view.Wanted.TheVariants.{Reports, View, NoView, NoPicture, EmptySpan}

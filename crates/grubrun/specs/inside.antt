@@ -1,1 +1,4 @@
 pub mod Statuses
+pub mod Files
+pub mod Rounds
+pub mod ViewWords

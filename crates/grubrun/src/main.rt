@@ -1,8 +1,11 @@
 //! The program `grubrun`: plays event files by the GRUB rule, and prints the answers to their lines, or a view of them on one time line.
 #![tactic(auto)]
 
+mod command;
 mod serve;
+mod texts;
 mod view;
+mod view_word;
 
 use crate::serve::{serve, serve_no_words};
 use grub_run::Streams;

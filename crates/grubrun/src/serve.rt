@@ -8,13 +8,15 @@ ghost use Rattle.clap.specs.Words.{FailsBy, fault_of, found_of, matches_of, rows
 ghost use Rattle.clap.specs.declared.error.kind.ErrorKind.TheVariants as kinds;
 ghost use Rattle.std.specs.declared.io.ErrorKind.TheVariants as io_kinds;
 ghost use Rattle.grub_run.specs.Faults.{HasFileFault};
-ghost use Rattle.grubrun_command.specs.CommandLine.{TriesNamed, command_line, files_named, texts_of};
-ghost use Rattle.grubrun_command.specs.inside.Files.{names_among};
+ghost use Rattle.grubrun.specs.CommandLine.{TriesNamed, command_line, files_named, texts_of};
+ghost use Rattle.grubrun.specs.inside.Files.{names_among};
 ghost use Rattle.grub_run.specs.Written.{Begins, Writes};
 ghost use Rattle.grubrun.specs.Statuses.{AsksFor, HasNoSpan, IsWanted, PrintsAsked};
 ghost use Rattle.grubrun.specs.inside.Statuses.{IsServed, PrintsKind};
 ghost use Rattle.grubrun.specs.Views.{IsRefused, Wants};
 
+use crate::command::{Options, options_of};
+use crate::texts::{HELP, VERSION};
 use crate::view::{Wanted, wanted_by};
 use clap::Error;
 use clap::error::ErrorKind;
@@ -22,7 +24,6 @@ use grub_run::{
     Attempts, GrubFault, ProgramFault, STATUS_FILE, STATUS_SYSTEM, STATUS_USAGE, Streams,
     serve_files, serve_view,
 };
-use grubrun_command::{HELP, Options, VERSION, options_of};
 use std::alloc::Global;
 use std::fmt::Display;
 use std::io;

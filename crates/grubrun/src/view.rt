@@ -3,8 +3,8 @@
 ghost use Rattle.std.specs.Prelude.{◌≡◌, None};
 ghost use Rattle.grubrun.specs.Views.{wanted_of, wanted_picture};
 
+use crate::view_word::ViewWord;
 use grub_run::FileView;
-use grubrun_command::ViewWord;
 
 /// What the words ask to be printed.
 #[derive(Clone, Copy)]

@@ -2,8 +2,12 @@
 //! that tasks need, and to event files.
 #![tactic(auto)]
 
+mod check_command;
+mod command;
+mod plain;
 mod refusal;
 mod serve;
+mod texts;
 
 use crate::serve::{serve, serve_no_words};
 use std::alloc::Global;

@@ -1,12 +1,12 @@
 //! Words that ask for nothing that there is, and the line of each.
 
 ghost use Rattle.std.specs.Prelude.{◌≡◌};
-ghost use Rattle.trace_faults.specs.declared.fault.TheConstants.{STATUS_USAGE};
+ghost use Rattle.trace_options.specs.declared.fault.TheConstants.{STATUS_USAGE};
 
 use size_report::{FaultKind, OptionFault};
 use std::io::Write;
 use trace_check::{CheckOption, WrongOption};
-use trace_faults::STATUS_USAGE;
+use trace_options::STATUS_USAGE;
 
 /// Why words ask for nothing.
 #[derive(Clone, Copy)]

@@ -1,24 +1,24 @@
 //! The program over its words and two writers.
 
 ghost use Rattle.std.specs.Prelude.{◌≡◌, ◌≤◌, ◌⊎◌};
-ghost use Rattle.trace_faults.specs.declared.fault.TheConstants.{STATUS_SYSTEM, STATUS_USAGE};
+ghost use Rattle.trace_options.specs.declared.fault.TheConstants.{STATUS_SYSTEM, STATUS_USAGE};
 
+use crate::command::command_line;
 use crate::refusal::Refusal;
 use clap::error::ErrorKind;
 use clap::{ArgMatches, Error};
 use convert::{ConvertOptions, options_of, serve_events, serve_tasks};
-use grubtrace_command::command_line;
 use size_report::{SizeWords, serve_size, size_options_of};
 use std::alloc::{AllocError, Global};
 use std::io;
 use std::io::Write;
-use task_figures::{FigureText, print_figures};
+use law_verdict::{FigureText, print_figures};
 use text_bytes::Source;
 use trace_check::{
     AskedLaws, CheckOption, CheckRequest, CheckWords, Window, WrongOption, laws_of,
     options_of as check_options, serve_check, window_of,
 };
-use trace_faults::{Fault, STATUS_USAGE};
+use trace_options::{Fault, STATUS_USAGE};
 use trace_file::Files;
 
 /// How many percent more than the least runtime are proposed, where the words do not say it.

@@ -1,10 +1,10 @@
 //! What a run takes from a budget, with one rule changed.
 
 ghost use Rattle.std.specs.Prelude.{◌≡◌, None};
-ghost use Rattle.kernel_entity.specs.Charge.{charging_of, cost_of};
+ghost use Rattle.kernel_rules.specs.Charge.{charging_of, cost_of};
 
 use crate::change::RuleChange;
-use kernel_entity::{BW_UNIT, Charge, ChargeLaw, ChargedRunqueue, Entity, RECLAIM, charging, cost};
+use kernel_rules::{BW_UNIT, Charge, ChargeLaw, ChargedRunqueue, Entity, RECLAIM, charging, cost};
 use trace_data::{Parameters, Sums};
 
 /// `max_bw` where a line of an older kernel has none: 95 % of a processor.

@@ -1,19 +1,15 @@
 //! A task has run, is dequeued, leaves the class, ends, or asks for another reservation, with one rule changed.
 
 ghost use Rattle.std.specs.Prelude.{◌≡◌, None};
-ghost use Rattle.kernel_functions.specs.Spend.{spending_of};
-ghost use Rattle.kernel_functions.specs.Dequeue.{dequeuing_of};
-ghost use Rattle.kernel_functions.specs.Leave.{leaving_of};
-ghost use Rattle.kernel_functions.specs.Timer.{fired_of};
-ghost use Rattle.kernel_functions.specs.Admit.{admitting_of};
-ghost use Rattle.kernel_functions.specs.Later.{locked_of};
+ghost use Rattle.kernel_rules.specs.Spend.{spending_of};
+ghost use Rattle.kernel_rules.specs.Dequeue.{dequeuing_of};
+ghost use Rattle.kernel_rules.specs.Leave.{leaving_of};
+ghost use Rattle.kernel_rules.specs.Timer.{fired_of};
+ghost use Rattle.kernel_rules.specs.Admit.{admitting_of};
+ghost use Rattle.kernel_rules.specs.Later.{locked_of};
 
 use crate::change::RuleChange;
-use kernel_entity::{Block, Entity, SumsChange, unchanged, zero_lag};
-use kernel_functions::{
-    Admission, Admitting, Arrival, Delayed, Dequeuing, Fired, Leaving, Locked, Spending, admit,
-    dequeue, leave, lock, spend, zero_lag_fired,
-};
+use kernel_rules::{Admission, Admitting, Arrival, Block, Delayed, Dequeuing, Entity, Fired, Leaving, Locked, Spending, SumsChange, admit, dequeue, leave, lock, spend, unchanged, zero_lag, zero_lag_fired};
 use trace_data::{Admitted, Parameters};
 
 pub(crate) fn with_period(entity: Entity, dl_period: u64) -> Entity {

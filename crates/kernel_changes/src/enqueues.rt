@@ -1,14 +1,13 @@
 //! A task is enqueued, with one rule changed.
 
 ghost use Rattle.std.specs.Prelude.{◌≡◌, None};
-ghost use Rattle.kernel_functions.specs.Enqueue.{enqueuing_of};
+ghost use Rattle.kernel_rules.specs.Enqueue.{enqueuing_of};
 
 use crate::change::RuleChange;
 use crate::departures::{moves, with_period};
 use crate::refills::{changed_waking, changed_woken};
 use crate::replenishments::{replenished_once, with_budget, with_left};
-use kernel_entity::{ChargeLaw, Contention, Entity, MIGRATED, REPLENISH, SumsChange, has};
-use kernel_functions::{Enqueuing, Refill, enqueue};
+use kernel_rules::{ChargeLaw, Contention, Enqueuing, Entity, MIGRATED, REPLENISH, Refill, SumsChange, enqueue, has};
 use trace_data::Enqueued;
 
 /// The entity that it leaves, with the budget that it had.

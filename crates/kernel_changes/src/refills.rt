@@ -2,7 +2,7 @@
 
 use crate::change::RuleChange;
 use crate::replenishments::with_budget;
-use kernel_entity::{ChargeLaw, Entity, Wake, is_before, overflows, served_by, waking, woken};
+use kernel_rules::{ChargeLaw, Entity, Wake, is_before, overflows, served_by, waking, woken};
 use trace_data::{Donor, Parameters};
 
 /// A millisecond, as the kernel's shifts have it.

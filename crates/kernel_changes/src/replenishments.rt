@@ -1,11 +1,10 @@
 //! A replenishment, with one rule changed.
 
 ghost use Rattle.std.specs.Prelude.{◌≡◌, None};
-ghost use Rattle.kernel_functions.specs.Timer.{replenish_fired_of};
+ghost use Rattle.kernel_rules.specs.Timer.{replenish_fired_of};
 
 use crate::change::RuleChange;
-use kernel_entity::{Entity, is_before, recharges, renewed, served_by};
-use kernel_functions::replenish_fired;
+use kernel_rules::{Entity, is_before, recharges, renewed, replenish_fired, served_by};
 use trace_data::Budget;
 
 /// The entity with another budget and deadline.

@@ -1,7 +1,7 @@
 -- What is taken stays the sum as a task becomes another.
 use Rattle.std.proofs.Common.{◌≡◌, ℕ, ◌^◌, ◌<◌, zero, suc, List, [], ◌∷◌, Some, slice_get, slice_set, sym, arith}
 use Rattle.std.proofs.lemmas.Option.{none-some, same_Some}
-use Rattle.kernel_entity.specs.Clock.{plus, less}
+use Rattle.kernel_rules.specs.Clock.{plus, less}
 use Rattle.timer_tasks.specs.declared.task.DeadlineTask.{DeadlineTask}
 use Rattle.timer_tasks.specs.Effects.{task_share_of}
 use Rattle.timer_play.specs.States.{State, replaced}

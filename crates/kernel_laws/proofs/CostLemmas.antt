@@ -2,7 +2,7 @@
 use Rattle.std.proofs.Common.{◌≡◌, ℕ, ◌+◌, ◌-◌, ◌*◌, ◌/◌, ◌^◌, ◌<◌, ◌≤◌, arith, refl}
 use Rattle.std.proofs.Math.Nat.{mod-eq_of_lt, mul-le-mul_right}
 use Rattle.std.proofs.lemmas.Nat.{mul-le}
-use Rattle.kernel_entity.specs.Clock.{plus, less, times}
+use Rattle.kernel_rules.specs.Clock.{plus, less, times}
 use Rattle.kernel_laws.specs.Rounding.{ratio_for}
 use Rattle.kernel_laws.specs.inside.Charges.{kernel_charge, exact_charge}
 use Rattle.kernel_laws.proofs.RoundingLemmas.{ratio_low}

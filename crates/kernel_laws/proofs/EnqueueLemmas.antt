@@ -1,21 +1,21 @@
 -- An enqueue balances.
 use Rattle.std.proofs.Common.{◌≡◌, ℕ, ◌^◌, ◌<◌, ◌==◌, Bool, true, false, not, if◌then◌else◌, arith, refl, sym, ◌∙◌}
-use Rattle.kernel_entity.specs.declared.entity.Entity.{Entity}
-use Rattle.kernel_entity.specs.declared.charge.ChargeLaw.{ChargeLaw}
-use Rattle.kernel_entity.specs.declared.flags.TheConstants.{WAKEUP, RESTORE, MIGRATED, MOVING}
-use Rattle.kernel_entity.specs.declared.budget.Wake.TheVariants.{Kept, Revised, Renewed}
-use Rattle.kernel_entity.specs.Clock.{plus, contains_bits}
-use Rattle.kernel_entity.specs.Sums.{no_change}
-use Rattle.kernel_entity.specs.Budget.{renewed_of, revised_of, replenished_of, recharged_of, renewed_if}
-use Rattle.kernel_entity.specs.Activity.{contending_of}
+use Rattle.kernel_rules.specs.declared.entity.Entity.{Entity}
+use Rattle.kernel_rules.specs.declared.charge.ChargeLaw.{ChargeLaw}
+use Rattle.kernel_rules.specs.declared.flags.TheConstants.{WAKEUP, RESTORE, MIGRATED, MOVING}
+use Rattle.kernel_rules.specs.declared.budget.Wake.TheVariants.{Kept, Revised, Renewed}
+use Rattle.kernel_rules.specs.Clock.{plus, contains_bits}
+use Rattle.kernel_rules.specs.Sums.{no_change}
+use Rattle.kernel_rules.specs.Budget.{renewed_of, revised_of, replenished_of, recharged_of, renewed_if}
+use Rattle.kernel_rules.specs.Activity.{contending_of}
 use Rattle.trace_data.specs.declared.probe.Enqueued.{Enqueued}
-use Rattle.kernel_functions.specs.declared.enqueues.Boost.{Boost}
-use Rattle.kernel_functions.specs.declared.enqueues.Boost.TheVariants.{Ordinary, Boosted, Ends}
-use Rattle.kernel_functions.specs.declared.enqueues.Arrival.{Arrival}
-use Rattle.kernel_functions.specs.declared.enqueues.Arrival.TheVariants.{Stays, Moves, Restores}
-use Rattle.kernel_functions.specs.declared.enqueues.Refill.{Refill}
-use Rattle.kernel_functions.specs.declared.enqueues.Refill.TheVariants.{Waits, Stays as RefillStays, Wakes, Replenishes, Restarts}
-use Rattle.kernel_functions.specs.Enqueue.{enqueuing_of, enqueuing_by, boosting_of, placed_of, is_constrained_of, constrained_of, arriving_of, arriving_change, waking_up_of, refilling_of, refilled_of}
+use Rattle.kernel_rules.specs.declared.enqueues.Boost.{Boost}
+use Rattle.kernel_rules.specs.declared.enqueues.Boost.TheVariants.{Ordinary, Boosted, Ends}
+use Rattle.kernel_rules.specs.declared.enqueues.Arrival.{Arrival}
+use Rattle.kernel_rules.specs.declared.enqueues.Arrival.TheVariants.{Stays, Moves, Restores}
+use Rattle.kernel_rules.specs.declared.enqueues.Refill.{Refill}
+use Rattle.kernel_rules.specs.declared.enqueues.Refill.TheVariants.{Waits, Stays as RefillStays, Wakes, Replenishes, Restarts}
+use Rattle.kernel_rules.specs.Enqueue.{enqueuing_of, enqueuing_by, boosting_of, placed_of, is_constrained_of, constrained_of, arriving_of, arriving_change, waking_up_of, refilling_of, refilled_of}
 use Rattle.kernel_laws.specs.Summing.{counted, active, away, Balances, waking_place, IsEnqueue, WakeBalances, RestoreBalances, ReplenishBalances}
 
 -- what a refill leaves alone: the bandwidth

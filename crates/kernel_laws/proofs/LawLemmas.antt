@@ -1,12 +1,12 @@
 -- The two charges of one run.
 use Rattle.std.proofs.Common.{◌≡◌, ℕ, ◌+◌, ◌-◌, ◌≤◌, ◌==◌, Bool, true, false, nat_lt, if◌then◌else◌, arith, rules, refl}
-use Rattle.kernel_entity.specs.declared.charge.ChargeLaw.TheVariants.{LinuxFrom65, Documentation}
-use Rattle.kernel_entity.specs.declared.charge.Charge.{Charge}
-use Rattle.kernel_entity.specs.declared.charge.Charge.TheVariants.{InFull, ByItsBandwidth, ByWhatIsLeft}
-use Rattle.kernel_entity.specs.declared.charge.ChargedRunqueue.{ChargedRunqueue}
-use Rattle.kernel_entity.specs.declared.entity.Entity.{Entity}
-use Rattle.kernel_entity.specs.Clock.{plus, less}
-use Rattle.kernel_entity.specs.Charge.{charging_of, rate_of, cost_by, cost_of, inactive_of}
+use Rattle.kernel_rules.specs.declared.charge.ChargeLaw.TheVariants.{LinuxFrom65, Documentation}
+use Rattle.kernel_rules.specs.declared.charge.Charge.{Charge}
+use Rattle.kernel_rules.specs.declared.charge.Charge.TheVariants.{InFull, ByItsBandwidth, ByWhatIsLeft}
+use Rattle.kernel_rules.specs.declared.charge.ChargedRunqueue.{ChargedRunqueue}
+use Rattle.kernel_rules.specs.declared.entity.Entity.{Entity}
+use Rattle.kernel_rules.specs.Clock.{plus, less}
+use Rattle.kernel_rules.specs.Charge.{charging_of, rate_of, cost_by, cost_of, inactive_of}
 use Rattle.kernel_laws.specs.Rounding.{ratio_for, IsOrdinary, rate_for, RateIsBetween, ChargesNoMore, ChargesHardlyLess, ChargesAlike}
 use Rattle.kernel_laws.specs.inside.Charges.{kernel_charge, exact_charge}
 use Rattle.kernel_laws.proofs.RoundingLemmas.{never_more, hardly_less, alike}

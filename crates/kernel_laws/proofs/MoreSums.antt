@@ -3,17 +3,17 @@ use Rattle.std.proofs.Common.{◌≡◌, ℕ, ◌*◌, ◌/◌, ◌%◌, ◌^◌
 use Rattle.std.proofs.Math.Nat.{mod-lt, div-le_self}
 use Rattle.trace_data.specs.declared.quantities.Sums.{Sums}
 use Rattle.trace_data.specs.declared.probe.Admitted.{Admitted}
-use Rattle.kernel_entity.specs.declared.entity.Entity.{Entity}
-use Rattle.kernel_entity.specs.declared.sums.SumsChange.{SumsChange}
-use Rattle.kernel_entity.specs.declared.flags.TheConstants.{QUEUED}
-use Rattle.kernel_entity.specs.declared.activity.Block.{Block}
-use Rattle.kernel_entity.specs.declared.activity.Block.TheVariants.{Unreserved, ZeroLagTimer, Past}
-use Rattle.kernel_entity.specs.Clock.{plus, less, ratio_of}
-use Rattle.kernel_entity.specs.Reservation.{reserved_of}
-use Rattle.kernel_entity.specs.Activity.{blocking_of, blocked_of, blocking_change_of}
-use Rattle.kernel_functions.specs.declared.admissions.Admission.TheVariants.{Changed, Back, New}
-use Rattle.kernel_functions.specs.Admit.{admitting_of, admitting_by, is_queued_of, new_of, still_of, enters_of}
-use Rattle.kernel_functions.specs.Leave.{leaving_of, outside_of, contends_no_more, leaving_change}
+use Rattle.kernel_rules.specs.declared.entity.Entity.{Entity}
+use Rattle.kernel_rules.specs.declared.sums.SumsChange.{SumsChange}
+use Rattle.kernel_rules.specs.declared.flags.TheConstants.{QUEUED}
+use Rattle.kernel_rules.specs.declared.activity.Block.{Block}
+use Rattle.kernel_rules.specs.declared.activity.Block.TheVariants.{Unreserved, ZeroLagTimer, Past}
+use Rattle.kernel_rules.specs.Clock.{plus, less, ratio_of}
+use Rattle.kernel_rules.specs.Reservation.{reserved_of}
+use Rattle.kernel_rules.specs.Activity.{blocking_of, blocked_of, blocking_change_of}
+use Rattle.kernel_rules.specs.declared.admissions.Admission.TheVariants.{Changed, Back, New}
+use Rattle.kernel_rules.specs.Admit.{admitting_of, admitting_by, is_queued_of, new_of, still_of, enters_of}
+use Rattle.kernel_rules.specs.Leave.{leaving_of, outside_of, contends_no_more, leaving_change}
 use Rattle.kernel_laws.specs.Summing.{counted, away, blocked_place, Balances, LeaveBalances, AdmissionBalances, place_before, place_entered, place_changed, Standing, total_this, total_running, SumsStay}
 use Rattle.kernel_laws.proofs.SumLemmas.{taken_off, kept}
 

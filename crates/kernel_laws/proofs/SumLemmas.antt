@@ -1,11 +1,11 @@
 -- Each event balances.
 use Rattle.std.proofs.Common.{◌≡◌, ℕ, None, ◌^◌, ◌<◌, true, false, not, if◌then◌else◌, arith, refl}
-use Rattle.kernel_entity.specs.declared.entity.Entity.{Entity}
-use Rattle.kernel_entity.specs.declared.activity.Block.{Block}
-use Rattle.kernel_entity.specs.declared.activity.Block.TheVariants.{Unreserved, ZeroLagTimer, Past}
-use Rattle.kernel_entity.specs.Clock.{plus, less}
-use Rattle.kernel_entity.specs.Activity.{blocking_of, blocked_of, blocking_change_of}
-use Rattle.kernel_functions.specs.Dequeue.{dequeuing_of, departing_of, departing_change, sleeping_of, off_of, taken_of}
+use Rattle.kernel_rules.specs.declared.entity.Entity.{Entity}
+use Rattle.kernel_rules.specs.declared.activity.Block.{Block}
+use Rattle.kernel_rules.specs.declared.activity.Block.TheVariants.{Unreserved, ZeroLagTimer, Past}
+use Rattle.kernel_rules.specs.Clock.{plus, less}
+use Rattle.kernel_rules.specs.Activity.{blocking_of, blocked_of, blocking_change_of}
+use Rattle.kernel_rules.specs.Dequeue.{dequeuing_of, departing_of, departing_change, sleeping_of, off_of, taken_of}
 use Rattle.kernel_laws.specs.Summing.{counted, active, Balances, IsInClass, place_after, SleepBalances, SaveBalances, MoveBalances, ZeroLagBalances}
 
 -- what is taken off is gone

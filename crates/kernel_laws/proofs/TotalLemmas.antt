@@ -2,27 +2,27 @@
 use Rattle.std.proofs.Common.{◌≡◌, ℕ, ◌^◌, ◌<◌, Bool, true, false, not, None, List, [], ◌∷◌, ◌++◌, arith, refl}
 use Rattle.trace_data.specs.declared.probe.Admitted.{Admitted}
 use Rattle.trace_data.specs.declared.probe.Enqueued.{Enqueued}
-use Rattle.kernel_entity.specs.declared.entity.Entity.{Entity}
-use Rattle.kernel_entity.specs.declared.sums.SumsChange.{SumsChange}
-use Rattle.kernel_entity.specs.declared.charge.ChargeLaw.{ChargeLaw}
-use Rattle.kernel_entity.specs.declared.flags.TheConstants.{WAKEUP}
-use Rattle.kernel_entity.specs.declared.activity.Block.{Block}
-use Rattle.kernel_entity.specs.declared.activity.Block.TheVariants.{Unreserved, ZeroLagTimer, Past}
-use Rattle.kernel_entity.specs.Clock.{plus, less, contains_bits}
-use Rattle.kernel_entity.specs.Reservation.{reserved_of, cleared_of}
-use Rattle.kernel_entity.specs.Activity.{blocking_of, blocked_of, blocking_change_of, ends_of}
-use Rattle.kernel_functions.specs.declared.admissions.Admission.TheVariants.{Changed, Back, New}
-use Rattle.kernel_functions.specs.declared.delays.Delayed.TheVariants.{ZeroLag}
-use Rattle.kernel_functions.specs.declared.enqueues.Boost.{Boost}
-use Rattle.kernel_functions.specs.declared.enqueues.Boost.TheVariants.{Ordinary, Boosted, Ends}
-use Rattle.kernel_functions.specs.declared.enqueues.Arrival.{Arrival}
-use Rattle.kernel_functions.specs.declared.enqueues.Arrival.TheVariants.{Stays, Moves, Restores}
-use Rattle.kernel_functions.specs.Admit.{admitting_of, admitting_by, is_queued_of, new_of, still_of, enters_of}
-use Rattle.kernel_functions.specs.Leave.{leaving_of, outside_of, contends_no_more, leaving_change}
-use Rattle.kernel_functions.specs.Dequeue.{dequeuing_of, departing_of, departing_change, sleeping_of, off_of}
-use Rattle.kernel_functions.specs.Enqueue.{enqueuing_of, enqueuing_by, boosting_of, arriving_of, arriving_change, waking_up_of}
-use Rattle.kernel_functions.specs.Later.{lock_change_of, after_lock_of}
-use Rattle.kernel_functions.specs.Timer.{is_gone_of}
+use Rattle.kernel_rules.specs.declared.entity.Entity.{Entity}
+use Rattle.kernel_rules.specs.declared.sums.SumsChange.{SumsChange}
+use Rattle.kernel_rules.specs.declared.charge.ChargeLaw.{ChargeLaw}
+use Rattle.kernel_rules.specs.declared.flags.TheConstants.{WAKEUP}
+use Rattle.kernel_rules.specs.declared.activity.Block.{Block}
+use Rattle.kernel_rules.specs.declared.activity.Block.TheVariants.{Unreserved, ZeroLagTimer, Past}
+use Rattle.kernel_rules.specs.Clock.{plus, less, contains_bits}
+use Rattle.kernel_rules.specs.Reservation.{reserved_of, cleared_of}
+use Rattle.kernel_rules.specs.Activity.{blocking_of, blocked_of, blocking_change_of, ends_of}
+use Rattle.kernel_rules.specs.declared.admissions.Admission.TheVariants.{Changed, Back, New}
+use Rattle.kernel_rules.specs.declared.delays.Delayed.TheVariants.{ZeroLag}
+use Rattle.kernel_rules.specs.declared.enqueues.Boost.{Boost}
+use Rattle.kernel_rules.specs.declared.enqueues.Boost.TheVariants.{Ordinary, Boosted, Ends}
+use Rattle.kernel_rules.specs.declared.enqueues.Arrival.{Arrival}
+use Rattle.kernel_rules.specs.declared.enqueues.Arrival.TheVariants.{Stays, Moves, Restores}
+use Rattle.kernel_rules.specs.Admit.{admitting_of, admitting_by, is_queued_of, new_of, still_of, enters_of}
+use Rattle.kernel_rules.specs.Leave.{leaving_of, outside_of, contends_no_more, leaving_change}
+use Rattle.kernel_rules.specs.Dequeue.{dequeuing_of, departing_of, departing_change, sleeping_of, off_of}
+use Rattle.kernel_rules.specs.Enqueue.{enqueuing_of, enqueuing_by, boosting_of, arriving_of, arriving_change, waking_up_of}
+use Rattle.kernel_rules.specs.Later.{lock_change_of, after_lock_of}
+use Rattle.kernel_rules.specs.Timer.{is_gone_of}
 use Rattle.kernel_laws.specs.Summing.{counted}
 use Rattle.kernel_laws.specs.Totals.{total_change, bandwidth_of, MovesTotal, IsSettled, AdmissionMovesTotal, is_reserved_by, SleepMovesTotal, ZeroLagMovesTotal, LeaveMovesTotal, OthersKeepTotal, Reserving, total_reserved, TotalStays}
 use Rattle.kernel_laws.proofs.MoreSums.{joined, behind, ratio_fits}

@@ -1,29 +1,29 @@
 -- A throttled task has its timer armed.
 use Rattle.std.proofs.Common.{◌≡◌, ℕ, Bool, true, false, not, ◌&&◌, ◌||◌, if◌then◌else◌, is_none, refl}
-use Rattle.kernel_entity.specs.declared.entity.Entity.{Entity}
-use Rattle.kernel_entity.specs.declared.charge.ChargeLaw.{ChargeLaw}
-use Rattle.kernel_entity.specs.declared.budget.Wake.TheVariants.{Kept, Revised, Renewed}
-use Rattle.kernel_entity.specs.declared.activity.Block.{Block}
-use Rattle.kernel_entity.specs.declared.activity.Block.TheVariants.{Unreserved, ZeroLagTimer, Past}
-use Rattle.kernel_entity.specs.declared.activity.Contention.{Contention}
-use Rattle.kernel_entity.specs.declared.activity.Contention.TheVariants.{Unreserved as WasUnreserved, StillRuns, RunsAgain}
-use Rattle.kernel_entity.specs.declared.sums.SumsChange.{SumsChange}
-use Rattle.kernel_entity.specs.declared.flags.TheConstants.{WAKEUP, REPLENISH}
-use Rattle.kernel_entity.specs.Clock.{contains_bits}
-use Rattle.kernel_entity.specs.Reservation.{cleared_of}
-use Rattle.kernel_entity.specs.Budget.{renewed_of, revised_of, replenished_of, replenished_blocked_of, timer_is_ahead}
-use Rattle.kernel_entity.specs.Activity.{contended_of, blocked_of, ends_of}
+use Rattle.kernel_rules.specs.declared.entity.Entity.{Entity}
+use Rattle.kernel_rules.specs.declared.charge.ChargeLaw.{ChargeLaw}
+use Rattle.kernel_rules.specs.declared.budget.Wake.TheVariants.{Kept, Revised, Renewed}
+use Rattle.kernel_rules.specs.declared.activity.Block.{Block}
+use Rattle.kernel_rules.specs.declared.activity.Block.TheVariants.{Unreserved, ZeroLagTimer, Past}
+use Rattle.kernel_rules.specs.declared.activity.Contention.{Contention}
+use Rattle.kernel_rules.specs.declared.activity.Contention.TheVariants.{Unreserved as WasUnreserved, StillRuns, RunsAgain}
+use Rattle.kernel_rules.specs.declared.sums.SumsChange.{SumsChange}
+use Rattle.kernel_rules.specs.declared.flags.TheConstants.{WAKEUP, REPLENISH}
+use Rattle.kernel_rules.specs.Clock.{contains_bits}
+use Rattle.kernel_rules.specs.Reservation.{cleared_of}
+use Rattle.kernel_rules.specs.Budget.{renewed_of, revised_of, replenished_of, replenished_blocked_of, timer_is_ahead}
+use Rattle.kernel_rules.specs.Activity.{contended_of, blocked_of, ends_of}
 use Rattle.trace_data.specs.declared.probe.Enqueued.{Enqueued}
-use Rattle.kernel_functions.specs.declared.runs.Spent.{Spent}
-use Rattle.kernel_functions.specs.declared.runs.Spent.TheVariants.{RunsOn, Throttled, Yielded}
-use Rattle.kernel_functions.specs.declared.enqueues.Boost.{Boost}
-use Rattle.kernel_functions.specs.declared.enqueues.Boost.TheVariants.{Ordinary, Boosted, Ends}
-use Rattle.kernel_functions.specs.declared.enqueues.Refill.{Refill}
-use Rattle.kernel_functions.specs.declared.enqueues.Refill.TheVariants.{Waits, Stays as RefillStays, Wakes, Replenishes, Restarts}
-use Rattle.kernel_functions.specs.Spend.{is_spent, throttled_of, throttling_of, spending_by, spending_of}
-use Rattle.kernel_functions.specs.Enqueue.{enqueuing_of, enqueuing_by, boosting_of, placed_of, constrained_of, waking_up_of, refilling_of, refilled_of}
-use Rattle.kernel_functions.specs.Dequeue.{dequeuing_of, off_of, taken_of, sleeping_of}
-use Rattle.kernel_functions.specs.Timer.{replenish_fired_of}
+use Rattle.kernel_rules.specs.declared.runs.Spent.{Spent}
+use Rattle.kernel_rules.specs.declared.runs.Spent.TheVariants.{RunsOn, Throttled, Yielded}
+use Rattle.kernel_rules.specs.declared.enqueues.Boost.{Boost}
+use Rattle.kernel_rules.specs.declared.enqueues.Boost.TheVariants.{Ordinary, Boosted, Ends}
+use Rattle.kernel_rules.specs.declared.enqueues.Refill.{Refill}
+use Rattle.kernel_rules.specs.declared.enqueues.Refill.TheVariants.{Waits, Stays as RefillStays, Wakes, Replenishes, Restarts}
+use Rattle.kernel_rules.specs.Spend.{is_spent, throttled_of, throttling_of, spending_by, spending_of}
+use Rattle.kernel_rules.specs.Enqueue.{enqueuing_of, enqueuing_by, boosting_of, placed_of, constrained_of, waking_up_of, refilling_of, refilled_of}
+use Rattle.kernel_rules.specs.Dequeue.{dequeuing_of, off_of, taken_of, sleeping_of}
+use Rattle.kernel_rules.specs.Timer.{replenish_fired_of}
 use Rattle.kernel_laws.specs.Waiting.{IsWaited, ChargeWaits, EnqueueWaits, ReturnWaits, DequeueWaits, TimerWaits, ChargeThrottles}
 
 no : (b : Bool) → false ≡ true → b ≡ true

@@ -5,7 +5,7 @@ use Rattle.std.proofs.Math.Dec.{ltb}
 use Rattle.std.proofs.lemmas.Bool.{le-ltb, lt-ltb}
 use Rattle.std.proofs.lemmas.Nat.{mul-le}
 use Rattle.trace_data.specs.declared.quantities.Donor.{Donor}
-use Rattle.kernel_entity.specs.Clock.{less, times, comes_before}
+use Rattle.kernel_rules.specs.Clock.{less, times, comes_before}
 use Rattle.kernel_laws.specs.Waking.{IsBelow18Minutes, AnswersAlike}
 use Rattle.kernel_laws.proofs.CostLemmas.{times_is, less_is}
 

@@ -5,9 +5,9 @@ use Rattle.std.proofs.Math.Dec.{ltb}
 use Rattle.std.proofs.Math.Nat.{mod-lt}
 use Rattle.std.proofs.lemmas.Bool.{lt-ltb}
 use Rattle.std.proofs.lemmas.Int.{wrapping_mul_is, int_wrap_fits, quot_fits, fits_signed_from_abs, wrapping_sub-bits, wrapping_sub_onto, int_wrap-add_left, to_z-of_z}
-use Rattle.kernel_entity.specs.declared.entity.Entity.{Entity}
-use Rattle.kernel_entity.specs.Clock.{less, signed, quotient_of}
-use Rattle.kernel_entity.specs.Activity.{zero_lag_of}
+use Rattle.kernel_rules.specs.declared.entity.Entity.{Entity}
+use Rattle.kernel_rules.specs.Clock.{less, signed, quotient_of}
+use Rattle.kernel_rules.specs.Activity.{zero_lag_of}
 use Rattle.kernel_laws.specs.ZeroLag.{ZeroLagIsExact}
 
 signed_is : (n : ℕ) → n < 2 ^ 63 → signed n ≡ pos n

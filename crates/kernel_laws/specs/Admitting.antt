@@ -1,6 +1,6 @@
 -- What the admitted tasks take from extra_bw of each CPU: the sum of floor (bw / N), modulo 2 ^ 64.
 use Rattle.std.specs.Prelude.{ℕ, ◌≡◌, ◌^◌, ◌<◌, List, [], ◌∷◌, Some, slice_get}
-use Rattle.kernel_entity.specs.Clock.{plus}
+use Rattle.kernel_rules.specs.Clock.{plus}
 use Rattle.timer_tasks.specs.declared.task.DeadlineTask.{DeadlineTask}
 use Rattle.timer_tasks.specs.Effects.{task_share_of}
 use Rattle.timer_play.specs.States.{State, replaced}

@@ -1,11 +1,11 @@
 -- How a kernel from 6.5 on rounds a charge, held to one exact division.
 use Rattle.std.specs.Prelude.{ℕ, ◌≡◌, ◌-◌, ◌+◌, ◌*◌, ◌/◌, ◌^◌, ◌<◌, ◌≤◌, true}
-use Rattle.kernel_entity.specs.declared.charge.ChargeLaw.TheVariants.{LinuxFrom65, Documentation}
-use Rattle.kernel_entity.specs.declared.charge.ChargedRunqueue.{ChargedRunqueue}
-use Rattle.kernel_entity.specs.declared.entity.Entity.{Entity}
-use Rattle.kernel_entity.specs.declared.flags.TheConstants.{RECLAIM}
-use Rattle.kernel_entity.specs.Clock.{contains_bits}
-use Rattle.kernel_entity.specs.Charge.{charging_of, rate_of, cost_of}
+use Rattle.kernel_rules.specs.declared.charge.ChargeLaw.TheVariants.{LinuxFrom65, Documentation}
+use Rattle.kernel_rules.specs.declared.charge.ChargedRunqueue.{ChargedRunqueue}
+use Rattle.kernel_rules.specs.declared.entity.Entity.{Entity}
+use Rattle.kernel_rules.specs.declared.flags.TheConstants.{RECLAIM}
+use Rattle.kernel_rules.specs.Clock.{contains_bits}
+use Rattle.kernel_rules.specs.Charge.{charging_of, rate_of, cost_of}
 
 -- bw_ratio of a runqueue's max_bw, in units of 2^-8 (init_dl_rq_bw_ratio)
 abbrev pub ratio_for : ℕ → ℕ

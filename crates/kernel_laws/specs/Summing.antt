@@ -1,26 +1,26 @@
 -- What an event does to the sums of a runqueue, and what its entity adds to them before and after.
 use Rattle.std.specs.Prelude.{ℕ, ◌≡◌, ◌^◌, ◌<◌, Bool, true, false, not, ◌==◌, if◌then◌else◌, List, [], ◌∷◌, ◌++◌}
-use Rattle.kernel_entity.specs.declared.entity.Entity.{Entity}
-use Rattle.kernel_entity.specs.declared.sums.SumsChange.{SumsChange}
-use Rattle.kernel_entity.specs.declared.charge.ChargeLaw.{ChargeLaw}
+use Rattle.kernel_rules.specs.declared.entity.Entity.{Entity}
+use Rattle.kernel_rules.specs.declared.sums.SumsChange.{SumsChange}
+use Rattle.kernel_rules.specs.declared.charge.ChargeLaw.{ChargeLaw}
 use Rattle.trace_data.specs.declared.probe.Enqueued.{Enqueued}
-use Rattle.kernel_entity.specs.declared.flags.TheConstants.{WAKEUP, RESTORE, MIGRATED, MOVING, QUEUED}
-use Rattle.kernel_entity.specs.declared.activity.Block.{Block}
-use Rattle.kernel_entity.specs.declared.activity.Block.TheVariants.{Unreserved, ZeroLagTimer, Past}
-use Rattle.kernel_entity.specs.Clock.{plus, contains_bits}
-use Rattle.kernel_entity.specs.Sums.{changed_of}
-use Rattle.kernel_entity.specs.Activity.{blocking_of}
+use Rattle.kernel_rules.specs.declared.flags.TheConstants.{WAKEUP, RESTORE, MIGRATED, MOVING, QUEUED}
+use Rattle.kernel_rules.specs.declared.activity.Block.{Block}
+use Rattle.kernel_rules.specs.declared.activity.Block.TheVariants.{Unreserved, ZeroLagTimer, Past}
+use Rattle.kernel_rules.specs.Clock.{plus, contains_bits}
+use Rattle.kernel_rules.specs.Sums.{changed_of}
+use Rattle.kernel_rules.specs.Activity.{blocking_of}
 use Rattle.trace_data.specs.declared.quantities.Sums.{Sums}
 use Rattle.trace_data.specs.declared.probe.Admitted.{Admitted}
-use Rattle.kernel_functions.specs.declared.admissions.Admission.TheVariants.{Changed, Back, New}
-use Rattle.kernel_functions.specs.Admit.{admitting_of, admission_of, is_queued_of}
-use Rattle.kernel_functions.specs.Leave.{leaving_of}
-use Rattle.kernel_functions.specs.declared.delays.Delayed.TheVariants.{Moved, ZeroLag}
-use Rattle.kernel_functions.specs.Dequeue.{dequeuing_of, off_of}
-use Rattle.kernel_functions.specs.declared.enqueues.Boost.TheVariants.{Ends}
-use Rattle.kernel_functions.specs.declared.enqueues.Arrival.TheVariants.{Stays}
-use Rattle.kernel_functions.specs.Enqueue.{enqueuing_of, boosting_of, arriving_of}
-use Rattle.kernel_functions.specs.Later.{delayed_change_of, after_delayed_of}
+use Rattle.kernel_rules.specs.declared.admissions.Admission.TheVariants.{Changed, Back, New}
+use Rattle.kernel_rules.specs.Admit.{admitting_of, admission_of, is_queued_of}
+use Rattle.kernel_rules.specs.Leave.{leaving_of}
+use Rattle.kernel_rules.specs.declared.delays.Delayed.TheVariants.{Moved, ZeroLag}
+use Rattle.kernel_rules.specs.Dequeue.{dequeuing_of, off_of}
+use Rattle.kernel_rules.specs.declared.enqueues.Boost.TheVariants.{Ends}
+use Rattle.kernel_rules.specs.declared.enqueues.Arrival.TheVariants.{Stays}
+use Rattle.kernel_rules.specs.Enqueue.{enqueuing_of, boosting_of, arriving_of}
+use Rattle.kernel_rules.specs.Later.{delayed_change_of, after_delayed_of}
 
 -- a bandwidth in a sum that counts it, or does not
 abbrev pub counted : Bool → ℕ → ℕ

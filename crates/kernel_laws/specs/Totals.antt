@@ -3,22 +3,22 @@ use Rattle.std.specs.Prelude.{ℕ, ◌≡◌, ◌^◌, ◌<◌, Bool, true, fals
 use Rattle.trace_data.specs.declared.probe.Admitted.{Admitted}
 use Rattle.trace_data.specs.declared.probe.Enqueued.{Enqueued}
 use Rattle.trace_data.specs.declared.quantities.Parameters.{Parameters}
-use Rattle.kernel_entity.specs.declared.entity.Entity.{Entity}
-use Rattle.kernel_entity.specs.declared.sums.SumsChange.{SumsChange}
-use Rattle.kernel_entity.specs.declared.charge.ChargeLaw.{ChargeLaw}
-use Rattle.kernel_entity.specs.declared.flags.TheConstants.{WAKEUP, QUEUED}
-use Rattle.kernel_entity.specs.declared.activity.Block.{Block}
-use Rattle.kernel_entity.specs.declared.activity.Block.TheVariants.{Unreserved, ZeroLagTimer, Past}
-use Rattle.kernel_entity.specs.Clock.{plus, less, ratio_of, contains_bits}
-use Rattle.kernel_entity.specs.Activity.{blocking_of, ends_of}
-use Rattle.kernel_functions.specs.declared.admissions.Admission.TheVariants.{Other, Refused, Changed, Back, New}
-use Rattle.kernel_functions.specs.declared.delays.Delayed.TheVariants.{Moved, ZeroLag}
-use Rattle.kernel_functions.specs.Admit.{admitting_of, admission_of}
-use Rattle.kernel_functions.specs.Leave.{leaving_of, outside_of}
-use Rattle.kernel_functions.specs.Dequeue.{dequeuing_of, off_of}
-use Rattle.kernel_functions.specs.Enqueue.{enqueuing_of}
-use Rattle.kernel_functions.specs.Later.{lock_change_of, after_lock_of}
-use Rattle.kernel_functions.specs.Timer.{is_gone_of}
+use Rattle.kernel_rules.specs.declared.entity.Entity.{Entity}
+use Rattle.kernel_rules.specs.declared.sums.SumsChange.{SumsChange}
+use Rattle.kernel_rules.specs.declared.charge.ChargeLaw.{ChargeLaw}
+use Rattle.kernel_rules.specs.declared.flags.TheConstants.{WAKEUP, QUEUED}
+use Rattle.kernel_rules.specs.declared.activity.Block.{Block}
+use Rattle.kernel_rules.specs.declared.activity.Block.TheVariants.{Unreserved, ZeroLagTimer, Past}
+use Rattle.kernel_rules.specs.Clock.{plus, less, ratio_of, contains_bits}
+use Rattle.kernel_rules.specs.Activity.{blocking_of, ends_of}
+use Rattle.kernel_rules.specs.declared.admissions.Admission.TheVariants.{Other, Refused, Changed, Back, New}
+use Rattle.kernel_rules.specs.declared.delays.Delayed.TheVariants.{Moved, ZeroLag}
+use Rattle.kernel_rules.specs.Admit.{admitting_of, admission_of}
+use Rattle.kernel_rules.specs.Leave.{leaving_of, outside_of}
+use Rattle.kernel_rules.specs.Dequeue.{dequeuing_of, off_of}
+use Rattle.kernel_rules.specs.Enqueue.{enqueuing_of}
+use Rattle.kernel_rules.specs.Later.{lock_change_of, after_lock_of}
+use Rattle.kernel_rules.specs.Timer.{is_gone_of}
 use Rattle.kernel_laws.specs.Summing.{counted}
 
 -- what __dl_sub and __dl_add make of total_bw, modulo 2 ^ 64

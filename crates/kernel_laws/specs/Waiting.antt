@@ -1,14 +1,14 @@
 -- A throttled task waits for its replenishment timer, function by function; and which charge throttles a task.
 use Rattle.std.specs.Prelude.{ℕ, pos, int_le, ◌≡◌, Bool, true, false, None}
-use Rattle.kernel_entity.specs.declared.entity.Entity.{Entity}
-use Rattle.kernel_entity.specs.declared.charge.ChargeLaw.{ChargeLaw}
-use Rattle.kernel_entity.specs.declared.flags.TheConstants.{WAKEUP, REPLENISH}
-use Rattle.kernel_entity.specs.Clock.{contains_bits}
+use Rattle.kernel_rules.specs.declared.entity.Entity.{Entity}
+use Rattle.kernel_rules.specs.declared.charge.ChargeLaw.{ChargeLaw}
+use Rattle.kernel_rules.specs.declared.flags.TheConstants.{WAKEUP, REPLENISH}
+use Rattle.kernel_rules.specs.Clock.{contains_bits}
 use Rattle.trace_data.specs.declared.probe.Enqueued.{Enqueued}
-use Rattle.kernel_functions.specs.Spend.{spending_of}
-use Rattle.kernel_functions.specs.Enqueue.{enqueuing_of}
-use Rattle.kernel_functions.specs.Dequeue.{dequeuing_of}
-use Rattle.kernel_functions.specs.Timer.{replenish_fired_of}
+use Rattle.kernel_rules.specs.Spend.{spending_of}
+use Rattle.kernel_rules.specs.Enqueue.{enqueuing_of}
+use Rattle.kernel_rules.specs.Dequeue.{dequeuing_of}
+use Rattle.kernel_rules.specs.Timer.{replenish_fired_of}
 
 -- throttled: its replenishment timer is armed
 abbrev pub IsWaited : Entity → Type 0

@@ -1,8 +1,8 @@
 -- How the test of a wake rounds: dl_entity_overflow drops ten bits of each factor, the documentation none.
 use Rattle.std.specs.Prelude.{ℕ, pos, ◌≡◌, ◌+◌, ◌*◌, ◌^◌, ◌<◌, ◌≤◌, true, false}
 use Rattle.trace_data.specs.declared.quantities.Donor.{Donor}
-use Rattle.kernel_entity.specs.declared.charge.ChargeLaw.TheVariants.{LinuxFrom65, Documentation}
-use Rattle.kernel_entity.specs.Budget.{overflows_by}
+use Rattle.kernel_rules.specs.declared.charge.ChargeLaw.TheVariants.{LinuxFrom65, Documentation}
+use Rattle.kernel_rules.specs.Budget.{overflows_by}
 
 -- a budget, a span to the deadline and a reservation, each below 18 minutes
 pub record IsBelow18Minutes (by : Donor) (budget span : ℕ) : Type 0 where

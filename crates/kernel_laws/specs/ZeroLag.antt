@@ -1,8 +1,8 @@
 -- The 0-lag time of a block, in exact numbers.
 use Rattle.std.specs.Prelude.{ℕ, ℤ, pos, ◌≡◌, ◌^◌, ◌<◌, ◌-ℤ◌, ◌*ℤ◌, int_div, FitsSigned}
 use Rattle.std.specs.Int.{w64}
-use Rattle.kernel_entity.specs.declared.entity.Entity.{Entity}
-use Rattle.kernel_entity.specs.Activity.{zero_lag_of}
+use Rattle.kernel_rules.specs.declared.entity.Entity.{Entity}
+use Rattle.kernel_rules.specs.Activity.{zero_lag_of}
 
 -- deadline - budget * period / runtime, from this clock on
 abbrev pub exact_zero_lag : Entity → ℕ → ℤ

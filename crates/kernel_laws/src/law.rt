@@ -1,8 +1,8 @@
 //! The rules of Linux from 6.5 on, held to those of Documentation/scheduler/sched-deadline.rst.
 
 ghost use Rattle.std.specs.Prelude.{ℕ};
-ghost use Rattle.kernel_entity.specs.declared.charge.ChargedRunqueue.{ChargedRunqueue};
-ghost use Rattle.kernel_entity.specs.declared.entity.Entity.{Entity};
+ghost use Rattle.kernel_rules.specs.declared.charge.ChargedRunqueue.{ChargedRunqueue};
+ghost use Rattle.kernel_rules.specs.declared.entity.Entity.{Entity};
 ghost use Rattle.trace_data.specs.declared.quantities.Donor.{Donor};
 ghost use Rattle.kernel_laws.specs.Waking.{IsBelow18Minutes, AnswersAlike};
 ghost use Rattle.kernel_laws.specs.Replenishing.{RechargesLeast};

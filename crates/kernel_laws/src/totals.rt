@@ -3,9 +3,9 @@
 ghost use Rattle.std.specs.Prelude.{ℕ, List};
 ghost use Rattle.trace_data.specs.declared.probe.Admitted.{Admitted};
 ghost use Rattle.trace_data.specs.declared.probe.Enqueued.{Enqueued};
-ghost use Rattle.kernel_entity.specs.declared.charge.ChargeLaw.{ChargeLaw};
-ghost use Rattle.kernel_entity.specs.declared.entity.Entity.{Entity};
-ghost use Rattle.kernel_entity.specs.declared.sums.SumsChange.{SumsChange};
+ghost use Rattle.kernel_rules.specs.declared.charge.ChargeLaw.{ChargeLaw};
+ghost use Rattle.kernel_rules.specs.declared.entity.Entity.{Entity};
+ghost use Rattle.kernel_rules.specs.declared.sums.SumsChange.{SumsChange};
 ghost use Rattle.kernel_laws.specs.Totals.{AdmissionMovesTotal, LeaveMovesTotal, OthersKeepTotal, Reserving, SleepMovesTotal, TotalStays, ZeroLagMovesTotal};
 
 /// An admission, and a change of a reservation.

@@ -2,8 +2,8 @@
 
 ghost use Rattle.std.specs.Prelude.{ℕ, Bool};
 ghost use Rattle.trace_data.specs.declared.probe.Enqueued.{Enqueued};
-ghost use Rattle.kernel_entity.specs.declared.charge.ChargeLaw.{ChargeLaw};
-ghost use Rattle.kernel_entity.specs.declared.entity.Entity.{Entity};
+ghost use Rattle.kernel_rules.specs.declared.charge.ChargeLaw.{ChargeLaw};
+ghost use Rattle.kernel_rules.specs.declared.entity.Entity.{Entity};
 ghost use Rattle.kernel_laws.specs.Waiting.{ChargeThrottles, ChargeWaits, DequeueWaits, EnqueueWaits, ReturnWaits, TimerWaits};
 
 /// A charge that throttles a task arms its timer, or enqueues the task again at once.

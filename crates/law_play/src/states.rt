@@ -4,7 +4,7 @@ use crate::cpu::Last;
 use crate::play::LawPlay;
 use crate::task::{Charge, Reservation, SUGOV, Task, Throttling};
 use law_findings::{LineKind, Queued, ReadLine, Sign};
-use law_switches::Ready;
+use law_values::Ready;
 use std::alloc::AllocError;
 use trace_data::{Budget, Dequeued, Enqueued, LeftClass, Ran, Updated};
 

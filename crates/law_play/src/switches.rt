@@ -2,7 +2,7 @@
 
 use crate::play::LawPlay;
 use law_findings::{LineKind, Queued, ReadLine};
-use law_switches::LowerTask;
+use law_values::LowerTask;
 use std::alloc::AllocError;
 
 impl LawPlay {

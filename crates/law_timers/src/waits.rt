@@ -1,7 +1,7 @@
 //! Tasks of the class that wait: for a lower class to be put off.
 
 use law_findings::{JudgedLaws, LineKind, ReadLine};
-use law_switches::{LowerTask, Ready, ReadyTasks};
+use law_values::{LowerTask, Ready, ReadyTasks};
 use std::alloc::{AllocError, Global};
 use std::collections::HashMap;
 use trace_data::{Kernel, Stop};

@@ -4,7 +4,7 @@ use Rattle.std.specs.List.{sum_by}
 use Rattle.std.proofs.lemmas.Bool.{ne_eqb}
 use Rattle.std.proofs.lemmas.List.{at_drop_more, at_drop_all, get_or-map, length-map, map_more, take_all}
 use Rattle.std.proofs.lemmas.List.Sums.{sum_by_push}
-use Rattle.grub_bw.specs.Bandwidth.{Capacity, IsCapacity}
+use Rattle.grub_book.specs.Bandwidth.{Capacity, IsCapacity}
 use Rattle.grub_book.specs.Machine.{Machine, queue_at}
 use Rattle.grub_book.specs.Sums.{Records, share_of, reading_of}
 use Rattle.grub_book.specs.Sound.{IsThere, IsKept}

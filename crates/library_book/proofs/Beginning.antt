@@ -1,11 +1,11 @@
 -- Memory is opened as a book.
 use Rattle.std.proofs.Common.{◌≡◌, ℕ, ◌<◌, ◌≤◌, List, [], length, get_or, map, sym, ap, ◌∙◌, arith}
 use Rattle.std.proofs.lemmas.List.{get_or-map, length-map, same_lists}
-use Rattle.grub_bw.specs.Bandwidth.{Reservation}
+use Rattle.grub_book.specs.Bandwidth.{Reservation}
 use Rattle.grub_book.specs.Machine.{Machine, task_at}
 use Rattle.grub_book.specs.Sound.{IsSound}
 use Rattle.grub_book.specs.Sums.{Records, record_at, opening_record, opening_book, reading_of}
-use Rattle.grub_bw.proofs.Laws.{IsServer-fresh}
+use Rattle.grub_book.proofs.BandwidthLaws.{IsServer-fresh}
 use Rattle.grub_book.proofs.Soundness.{opening_this}
 use Rattle.grub_book.proofs.Totals.{opening_totals}
 use Rattle.library_book.specs.Memory.{record_of, records_of, params_of, constants_of, reading_in, machine_of, AreStates, IsFlatMachine, IsBook}

@@ -1,8 +1,8 @@
 -- The least run that uses up a budget.
 use Rattle.std.proofs.Common.{◌≡◌, ℕ, ◌+◌, ◌-◌, ◌*◌, ◌/◌, ◌<◌, ◌≤◌, arith}
 use Rattle.std.proofs.Math.Nat.{lt-div-mul-add, le-div_iff_mul-le, div-lt_iff_lt-mul}
-use Rattle.grub_bw.specs.Bandwidth.{Capacity}
-use Rattle.grub_bw.specs.Server.{rate_of}
+use Rattle.grub_book.specs.Bandwidth.{Capacity}
+use Rattle.grub_book.specs.Server.{rate_of}
 use Rattle.grub_book.specs.declared.event.Reading.{Reading}
 use Rattle.library_book.specs.Exhaustion.{IsExhaustion}
 

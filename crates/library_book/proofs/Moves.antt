@@ -2,7 +2,7 @@
 use Rattle.std.proofs.Common.{◌≡◌, ◌≢◌, inl, inr, true, false, Bool, cond, ℕ, ◌+◌, ◌-◌, ◌<◌, ◌≤◌, ◌==◌, nat_lt, List, length, get_or, set, map, Some, None, refl, sym, ap, subst, ◌∙◌, arith}
 use Rattle.std.proofs.lemmas.Bool.{cases_eq, eq-eqb, eqb-true, le-ltb, lt-ltb, ne_eqb}
 use Rattle.std.proofs.lemmas.List.{get_or-map, get_or-set_same, get_or-set_other, length-set, map-set, set-get_or}
-use Rattle.grub_bw.specs.Bandwidth.{Capacity, bandwidth_of}
+use Rattle.grub_book.specs.Bandwidth.{Capacity, bandwidth_of}
 use Rattle.grub_book.specs.Machine.{Machine, queue_at}
 use Rattle.grub_book.specs.Sums.{Records, record_at, share_of, is_on, is_active_on, reading_of, running_of, this_of}
 use Rattle.grub_book.specs.Sound.{IsKept}

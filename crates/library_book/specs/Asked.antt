@@ -1,7 +1,7 @@
 -- What is asked and answered in plain numbers.
 use Rattle.std.specs.Prelude.{ℕ, ◌==◌, nat_lt, nat_le, ◌&&◌, Bool, true, false, Option, Some, None, if◌then◌else◌}
-use Rattle.grub_bw.specs.Bandwidth.{reservation_fits}
-use Rattle.grub_bw.specs.declared.server.TheConstants.{MOMENT_MAX}
+use Rattle.grub_book.specs.Bandwidth.{reservation_fits}
+use Rattle.grub_book.specs.declared.server.TheConstants.{MOMENT_MAX}
 use Rattle.grub_book.specs.declared.op.TheConstants.{RUN_MAX}
 use Rattle.grub_book.specs.declared.op.Op.{Op}
 use Rattle.grub_book.specs.declared.op.Op.TheVariants.{Join, Wake, Block, Leave, Timer, Exit, Charge, Retune}

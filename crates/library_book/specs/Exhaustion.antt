@@ -1,7 +1,7 @@
 -- After how long a run a budget is used up, by the sums of now.
 use Rattle.std.specs.Prelude.{ℕ, ◌≤◌, ◌==◌, if◌then◌else◌}
-use Rattle.grub_bw.specs.Bandwidth.{Capacity}
-use Rattle.grub_bw.specs.Server.{charge_of}
+use Rattle.grub_book.specs.Bandwidth.{Capacity}
+use Rattle.grub_book.specs.Server.{charge_of}
 use Rattle.grub_book.specs.declared.event.Reading.{Reading}
 use Rattle.library_book.specs.Numbers.{or_else, charge_fault}
 use Rattle.library_book.specs.declared.codes.TheConstants.{DONE, TOO_SMALL}

@@ -1,11 +1,11 @@
 -- What the kernel itself charges, in nanoseconds and with its own rounding: the `grub_reclaim` of kernel/sched/deadline.c, as `kernel_entity` has it.
 use Rattle.std.specs.Prelude.{ℕ, nat_lt, false, if◌then◌else◌}
-use Rattle.kernel_entity.specs.Charge.{cost_of}
-use Rattle.kernel_entity.specs.Reservation.{fresh_of}
-use Rattle.kernel_entity.specs.declared.charge.ChargeLaw.{ChargeLaw}
-use Rattle.kernel_entity.specs.declared.charge.ChargeLaw.TheVariants.{LinuxBefore65, LinuxFrom65}
-use Rattle.kernel_entity.specs.declared.entity.Entity.{Entity}
-use Rattle.kernel_entity.specs.declared.flags.TheConstants.{RECLAIM}
+use Rattle.kernel_rules.specs.Charge.{cost_of}
+use Rattle.kernel_rules.specs.Reservation.{fresh_of}
+use Rattle.kernel_rules.specs.declared.charge.ChargeLaw.{ChargeLaw}
+use Rattle.kernel_rules.specs.declared.charge.ChargeLaw.TheVariants.{LinuxBefore65, LinuxFrom65}
+use Rattle.kernel_rules.specs.declared.entity.Entity.{Entity}
+use Rattle.kernel_rules.specs.declared.flags.TheConstants.{RECLAIM}
 
 -- 6.5, as KERNEL_VERSION(6, 5, 0) has it
 abbrev pub law_of : ℕ → ChargeLaw

@@ -1,6 +1,6 @@
 -- Memory whose numbers are within their limits.
 use Rattle.std.specs.Prelude.{ℕ, ◌<◌, List, length, slice_index_or}
-use Rattle.grub_bw.specs.Bandwidth.{IsReservation, IsCapacity}
+use Rattle.grub_book.specs.Bandwidth.{IsReservation, IsCapacity}
 use Rattle.library_book.specs.Memory.{params_of, constants_of}
 use Rattle.library_book.specs.declared.memory.NdTask.{NdTask}
 use Rattle.library_book.specs.declared.memory.NdRunqueue.{NdRunqueue}

@@ -1,6 +1,6 @@
 -- What the memory of a caller stands for: a task's struct is a record of the book, and a runqueue's its constants beside its reading.
 use Rattle.std.specs.Prelude.{◌≡◌, ℕ, ◌==◌, ◌<◌, ◌≤◌, List, length, map, slice_index_or, if◌then◌else◌}
-use Rattle.grub_bw.specs.Bandwidth.{Reservation, Capacity, IsReservation, IsCapacity}
+use Rattle.grub_book.specs.Bandwidth.{Reservation, Capacity, IsReservation, IsCapacity}
 use Rattle.grub_book.specs.Machine.{Machine, queue_at, task_at}
 use Rattle.grub_book.specs.Sums.{Records, reading_of}
 use Rattle.grub_book.specs.Sound.{IsSound}

@@ -1,7 +1,7 @@
 -- A ready task goes to another runqueue as it is: the kernel's dequeue with DEQUEUE_SAVE and enqueue with ENQUEUE_RESTORE, as push and pull do.
 -- It stands beside the steps of the one-thread book, which have no such op.
 use Rattle.std.specs.Prelude.{◌≡◌, ◌≢◌, ◌≤◌, ℕ, ◌+◌, ◌==◌, nat_lt, slice_set, Option, Some, None, if◌then◌else◌}
-use Rattle.grub_bw.specs.Bandwidth.{bandwidth_of}
+use Rattle.grub_book.specs.Bandwidth.{bandwidth_of}
 use Rattle.grub_book.specs.Machine.{Machine, queue_at}
 use Rattle.grub_book.specs.Sums.{Records, record_at, this_of}
 use Rattle.grub_book.specs.Step.{refused_charge, runqueue_of}

@@ -1,12 +1,12 @@
 -- The plain numbers of the arithmetic, what they stand for, and the number of what is wrong with them.
 use Rattle.std.specs.Prelude.{ℕ, ◌==◌, ◌||◌, nat_lt, is_none, if◌then◌else◌}
-use Rattle.grub_bw.specs.Bandwidth.{Reservation, Capacity, bandwidth_of}
-use Rattle.grub_bw.specs.Server.{depleted_of}
-use Rattle.grub_bw.specs.declared.server.Server.{Server}
-use Rattle.grub_bw.specs.declared.server.TheConstants.{MOMENT_MAX}
+use Rattle.grub_book.specs.Bandwidth.{Reservation, Capacity, bandwidth_of}
+use Rattle.grub_book.specs.Server.{depleted_of}
+use Rattle.grub_book.specs.declared.server.Server.{Server}
+use Rattle.grub_book.specs.declared.server.TheConstants.{MOMENT_MAX}
 use Rattle.grub_book.specs.declared.event.Reading.{Reading}
-use Rattle.grub_bw.specs.declared.params.TheConstants.{PERIOD_MAX}
-use Rattle.grub_bw.specs.declared.queue.TheConstants.{BW_UNIT}
+use Rattle.grub_book.specs.declared.params.TheConstants.{PERIOD_MAX}
+use Rattle.grub_book.specs.declared.queue.TheConstants.{BW_UNIT}
 use Rattle.library_book.specs.declared.codes.TheConstants.{DONE, PERIOD_OUT_OF_RANGE, RUNTIME_OUT_OF_RANGE, TOO_SMALL, UMAX_OUT_OF_RANGE, UEXTRA_OUT_OF_RANGE, BUDGET_OUT_OF_RANGE, MOMENT_OUT_OF_RANGE, RUNNING_OUT_OF_RANGE, DEADLINE_OVERFLOW}
 use Rattle.library_book.specs.declared.numbers.NdParams.{NdParams}
 use Rattle.library_book.specs.declared.numbers.NdCapacity.{NdCapacity}

@@ -2,15 +2,15 @@
 //! given; what it would write is then left as it was.
 
 ghost use Rattle.std.specs.Prelude.{◌≡◌, ◌≢◌, ◌≤◌, ◌↔◌, ◌-ℤ◌, pos, Some, IfOk, IfErr, IsOk};
-ghost use Rattle.grub_bw.specs.Bandwidth.{IsReservation, IsCapacity, bandwidth_of};
-ghost use Rattle.grub_bw.specs.Server.{Fits, woken_of, lag_of, charge_of, depleted_of};
+ghost use Rattle.grub_book.specs.Bandwidth.{IsReservation, IsCapacity, bandwidth_of};
+ghost use Rattle.grub_book.specs.Server.{Fits, woken_of, lag_of, charge_of, depleted_of};
 ghost use Rattle.library_book.specs.Numbers.{reservation_of, capacity_of, server_of, reading_of_numbers, constants_fault, server_fault, wake_fault, charge_fault, deplete_fault};
 
 use crate::codes::{
     BUDGET_OUT_OF_RANGE, DEADLINE_OVERFLOW, DONE, MOMENT_OUT_OF_RANGE, RUNNING_OUT_OF_RANGE,
 };
 use crate::numbers::{NdCapacity, NdParams, NdReading, NdServer, capacity_fault, params_fault};
-use grub_bw::{MOMENT_MAX, Params, Queue, Server, charge, deplete, woken, zero_lag};
+use grub_book::{MOMENT_MAX, Params, Queue, Server, charge, deplete, woken, zero_lag};
 
 /// A server and its reservation, or the number of the first fault: 1, 2, 3 or 60.
 fn admitted(server: NdServer, params: NdParams) -> Result<(Server, Params), u32>

@@ -1,7 +1,7 @@
 //! Whether memory is a book.
 
 ghost use Rattle.std.specs.Prelude.{◌≡◌, ◌<◌, ◌≤◌, ◌↔◌, ◌^◌, ℕ, length, if◌then◌else◌};
-ghost use Rattle.grub_bw.specs.Bandwidth.{IsReservation};
+ghost use Rattle.grub_book.specs.Bandwidth.{IsReservation};
 ghost use Rattle.grub_book.specs.Machine.{Machine};
 ghost use Rattle.grub_book.specs.Sums.{share_of, is_on, is_active_on, running_of, this_of};
 ghost use Rattle.grub_book.specs.Sound.{IsKept};
@@ -20,8 +20,7 @@ use crate::codes::{
 use crate::memory::{NdRunqueue, NdTask};
 use crate::opening::setup_fault;
 use crate::records::place_of;
-use grub_book::{COUNT_MAX, Place};
-use grub_bw::Params;
+use grub_book::{COUNT_MAX, Params, Place};
 
 /// The greatest state of a task: it has ended.
 const STATE_MAX: u32 = 4;

@@ -8,8 +8,7 @@ ghost use Rattle.library_book.specs.Answer.{is_op, is_move};
 
 use crate::asked::{MOVE, NdOp, NdReply};
 use crate::memory::NdRunqueue;
-use grub_book::{MOMENT_MAX, Op, RUN_MAX, Reply};
-use grub_bw::Params;
+use grub_book::{MOMENT_MAX, Op, Params, RUN_MAX, Reply};
 
 /// The op that is asked, where there is one of this kind.
 pub fn op_of(op: NdOp) -> Option<Op>

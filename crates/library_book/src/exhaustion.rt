@@ -1,13 +1,13 @@
 //! After how long a run a budget is used up.
 
 ghost use Rattle.std.specs.Prelude.{◌≡◌, ◌≢◌, ◌<◌, ◌≤◌, ◌/◌, ◌+◌, ◌-◌, ◌*◌, ◌^◌};
-ghost use Rattle.grub_bw.specs.Server.{rate_of};
+ghost use Rattle.grub_book.specs.Server.{rate_of};
 ghost use Rattle.library_book.specs.Numbers.{capacity_of, reading_of_numbers};
 ghost use Rattle.library_book.specs.Exhaustion.{IsExhaustion, exhaustion_fault};
 
 use crate::codes::{DONE, RUNNING_OUT_OF_RANGE, TOO_SMALL};
 use crate::numbers::{NdCapacity, NdReading, capacity_fault};
-use grub_bw::Queue;
+use grub_book::Queue;
 
 /// The rate of a charge: what inactive and extra bandwidth leave, and at least the task's own.
 fn rate(bw: u32, queue: Queue, now: NdReading) -> u32

@@ -3,7 +3,7 @@
 ghost use Rattle.std.specs.Prelude.{◌≡◌};
 ghost use Rattle.library_book.specs.Kernel.{kernel_charge_of, reclaiming};
 
-use kernel_entity::{ChargeLaw, ChargedRunqueue, Entity, RECLAIM, cost, fresh};
+use kernel_rules::{ChargeLaw, ChargedRunqueue, Entity, RECLAIM, cost, fresh};
 use trace_data::{Parameters, Sums};
 
 /// The first kernel that charges by max_bw: 6.5.

@@ -1,7 +1,7 @@
 //! Laws of the definitions.
 
 ghost use Rattle.std.specs.Prelude.{◌≡◌, ◌≢◌, ℕ, ◌+◌, ◌<◌, List, length, fold, slice_set};
-ghost use Rattle.grub_bw.specs.Bandwidth.{bandwidth_of};
+ghost use Rattle.grub_book.specs.Bandwidth.{bandwidth_of};
 ghost use Rattle.grub_book.specs.Machine.{Machine};
 ghost use Rattle.grub_book.specs.Sums.{Records, record_at, reading_of, running_of, this_of};
 ghost use Rattle.grub_book.specs.History.{IsLegalFrom, after};

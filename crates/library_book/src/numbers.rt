@@ -1,14 +1,14 @@
 //! A reservation and the constants of a runqueue as plain numbers.
 
 ghost use Rattle.std.specs.Prelude.{◌≡◌, ◌↔◌};
-ghost use Rattle.grub_bw.specs.Bandwidth.{IsReservation, IsCapacity};
+ghost use Rattle.grub_book.specs.Bandwidth.{IsReservation, IsCapacity};
 ghost use Rattle.library_book.specs.Numbers.{reservation_of, capacity_of, reservation_fault, constants_fault};
 
 use crate::codes::{
     DONE, PERIOD_OUT_OF_RANGE, RUNTIME_OUT_OF_RANGE, TOO_SMALL, UEXTRA_OUT_OF_RANGE,
     UMAX_OUT_OF_RANGE,
 };
-use grub_bw::{ParamFault, Params, Queue, QueueFault};
+use grub_book::{ParamFault, Params, Queue, QueueFault};
 
 /// A reservation: a runtime in each period, which is the relative deadline too.
 #[repr(C)]

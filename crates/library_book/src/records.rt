@@ -1,7 +1,7 @@
 //! What stands in the memory of a book, as the records, constants and readings of `grub_book`.
 
 ghost use Rattle.std.specs.Prelude.{◌≡◌, ◌↔◌, ◌<◌, ◌≤◌, ◌^◌, if◌then◌else◌, IfSome, IsNone, IsTrue};
-ghost use Rattle.grub_bw.specs.Bandwidth.{bandwidth_of};
+ghost use Rattle.grub_book.specs.Bandwidth.{bandwidth_of};
 ghost use Rattle.grub_book.specs.Step.{lag_moment};
 ghost use Rattle.grub_book.specs.Totals.{Counts, shifted_of};
 ghost use Rattle.grub_book.specs.declared.rules.TheConstants.{COUNT_MAX};
@@ -9,8 +9,7 @@ ghost use Rattle.library_book.specs.Memory.{place_of, record_of, constants_of, r
 ghost use Rattle.library_book.specs.inside.Ready.{CanStand, IsReady};
 
 use crate::memory::{NdRunqueue, NdTask};
-use grub_book::{COUNT_MAX, Place, Reading, Record, State};
-use grub_bw::{Params, Queue, Server};
+use grub_book::{COUNT_MAX, Params, Place, Queue, Reading, Record, Server, State};
 
 pub(crate) fn place_of(state: u32, queue: u32) -> Place
     ensures { result ≡ place_of state queue }

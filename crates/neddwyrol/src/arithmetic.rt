@@ -1,8 +1,8 @@
 //! Bandwidths, servers and charges, without state.
 
 ghost use Rattle.std.specs.Prelude.{◌≡◌, ◌≢◌, ◌↔◌, ◌-ℤ◌, pos, Some};
-ghost use Rattle.grub_bw.specs.Bandwidth.{IsReservation, IsCapacity, bandwidth_of};
-ghost use Rattle.grub_bw.specs.Server.{woken_of, lag_of, charge_of, depleted_of};
+ghost use Rattle.grub_book.specs.Bandwidth.{IsReservation, IsCapacity, bandwidth_of};
+ghost use Rattle.grub_book.specs.Server.{woken_of, lag_of, charge_of, depleted_of};
 ghost use Rattle.library_book.specs.Numbers.{reservation_of, capacity_of, server_of, reading_of_numbers, reservation_fault, constants_fault, server_fault, wake_fault, charge_fault, deplete_fault};
 ghost use Rattle.library_book.specs.Exhaustion.{IsExhaustion, exhaustion_fault};
 ghost use Rattle.library_book.specs.Kernel.{kernel_charge_of};

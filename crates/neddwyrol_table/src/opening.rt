@@ -12,8 +12,7 @@ ghost use Rattle.neddwyrol_table.specs.Opened.{setup_fault, passes_fault, open_f
 
 use crate::held::Held;
 use crate::parting::unpushed;
-use grub_book::{QUEUES_MAX, Setup, TASKS_MAX};
-use grub_bw::{Params, Queue};
+use grub_book::{Params, QUEUES_MAX, Queue, Setup, TASKS_MAX};
 use grub_table::{OpenFault, Pass, Shared};
 use library_book::{
     DONE, NO_QUEUE, NdRunqueue, NdTask, TOO_MANY_QUEUES, TOO_MANY_TASKS, fault_of_queues,

@@ -1,3 +1,4 @@
 pub mod Moves
 pub mod Prefixes
 pub mod Taking
+pub mod NothingPendingLemmas

@@ -1,3 +1,4 @@
 pub mod Explained
 pub mod Taken
 pub mod inside
+pub mod NothingPending

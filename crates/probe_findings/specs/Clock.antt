@@ -1,7 +1,7 @@
 -- The law of clocks: the clock of a runqueue (rq->clock) is brought up to date before a task wakes there (update_rq_clock).
 use Rattle.std.specs.Prelude.{ℕ, ℤ, pos, int_lt, ◌-◌, ◌/◌, Bool, nat_lt, if◌then◌else◌, Option, Some, None}
 use Rattle.std.specs.Int.{w64, int_wrapping_add}
-use Rattle.kernel_entity.specs.Clock.{less, signed}
+use Rattle.kernel_rules.specs.Clock.{less, signed}
 use Rattle.probe_findings.specs.declared.clock_law.LeastLag.{LeastLag}
 
 -- how far a CPU's clock is behind the moment of a line

@@ -3,7 +3,7 @@ use Rattle.std.specs.Prelude.{ℕ, ◌^◌, ◌==◌, Bool, ◌||◌, nat_le, if
 use Rattle.std.specs.Option.{option_or}
 use Rattle.probe_findings.specs.declared.settings.LawSettings.{LawSettings}
 use Rattle.probe_findings.specs.declared.settings.ServerNote.{ServerNote}
-use Rattle.kernel_entity.specs.Clock.{ratio_of}
+use Rattle.kernel_rules.specs.Clock.{ratio_of}
 
 -- fair_server_init: 50 ms in 1 s
 abbrev pub usual_server : Bool → ℕ

@@ -7,7 +7,7 @@ use crate::start_law::{
     TaskSeen, is_older, nothing_seen, shown_elsewhere, shown_in_class, with_admission,
 };
 use crate::{FIRST_SEEN, Findings, ProbedLine};
-use kernel_entity::{DEADLINE_POLICY, WAKEUP, has, ratio};
+use kernel_rules::{DEADLINE_POLICY, WAKEUP, has, ratio};
 use std::alloc::{AllocError, Global};
 use std::collections::HashMap;
 use trace_data::{Enqueued, Mark, Probe, Ran, Updated};

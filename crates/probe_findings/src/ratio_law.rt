@@ -3,7 +3,7 @@
 ghost use Rattle.std.specs.Prelude.{◌≡◌};
 ghost use Rattle.probe_findings.specs.Ratio.{EachPairIsTaken, greatest_ratio, is_ratio};
 
-use kernel_entity::BW_UNIT;
+use kernel_rules::BW_UNIT;
 
 /// One, by 2^-28: a `bw_ratio` by a `max_bw`.
 const PRODUCT: u64 = 1 << 28;

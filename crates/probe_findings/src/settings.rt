@@ -3,7 +3,7 @@
 ghost use Rattle.std.specs.Prelude.{◌≡◌};
 ghost use Rattle.probe_findings.specs.Settings.{is_limit_by, noted_server, server_bw_by, usual_server};
 
-use kernel_entity::{BW_UNIT, ratio};
+use kernel_rules::{BW_UNIT, ratio};
 
 /// The fair server's reservation where nothing tells it: 50 ms in each second (`fair_server_init`).
 const FAIR_RUNTIME: u64 = 50_000_000;

@@ -1,1 +1,4 @@
 pub mod Lines
+pub mod Timers
+pub mod Servers
+pub mod Marks

@@ -3,8 +3,8 @@ use Rattle.std.specs.Prelude.{ℕ, Bool, true, false, not, ◌&&◌, ◌||◌, �
 use Rattle.std.specs.List.{list_any, list_all}
 use Rattle.trace_data.specs.declared.probe.Probe.{Probe}
 use Rattle.trace_data.specs.declared.probe.Probe.TheVariants.{Enqueued as EnqueuedLine, Updated as UpdatedLine, Dequeued as DequeuedLine, Migrating as MigratingLine, LeftClass as LeftLine, Admitted as AdmittedLine, ZeroLagFired as ZeroLagFiredLine, ReplenishFired as ReplenishFiredLine, Armed as ArmedLine, ServerStarted as ServerStartedLine, Picked as PickedLine, ServerStopped as ServerStoppedLine, ServerIdled as ServerIdledLine, Mark as MarkLine}
-use Rattle.kernel_entity.specs.declared.flags.TheConstants.{REPLENISH}
-use Rattle.kernel_entity.specs.Clock.{contains_bits}
+use Rattle.kernel_rules.specs.declared.flags.TheConstants.{REPLENISH}
+use Rattle.kernel_rules.specs.Clock.{contains_bits}
 use Rattle.probe_findings.specs.declared.words.ProbedLine.{ProbedLine}
 use Rattle.probe_run.specs.declared.rules.PlayRules.{PlayRules}
 use Rattle.probe_run.specs.declared.waiting.Awaits.{Awaits}
@@ -21,9 +21,9 @@ use Rattle.probe_tasks.specs.declared.choice.LineChoice.{LineChoice}
 use Rattle.probe_tasks.specs.Enqueues.{enqueued_by}
 use Rattle.probe_tasks.specs.Runs.{updated_by}
 use Rattle.probe_tasks.specs.Tasks.{dequeued_by, migrating_by, left_by, admitted_by}
-use Rattle.probe_timers.specs.Timers.{zero_lag_fired_by, replenish_fired_by, armed_by}
-use Rattle.probe_timers.specs.Servers.{started_by, picked_by, stopped_by, does_nothing}
-use Rattle.probe_timers.specs.Marks.{marked_by}
+use Rattle.probe_lines.specs.Timers.{zero_lag_fired_by, replenish_fired_by, armed_by}
+use Rattle.probe_lines.specs.Servers.{started_by, picked_by, stopped_by, does_nothing}
+use Rattle.probe_lines.specs.Marks.{marked_by}
 
 -- the line within a dequeue before which its rest does not come
 abbrev pub follows_by : OpenDequeue → Awaits → Probe → Bool

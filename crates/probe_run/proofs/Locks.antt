@@ -1,8 +1,8 @@
 -- A function that has its lock.
 use Rattle.std.proofs.Common.{◌≡◌, ℕ, refl, ap, sym, ◌∙◌}
-use Rattle.kernel_functions.specs.declared.delays.Delayed.{Delayed}
-use Rattle.kernel_functions.specs.declared.delays.Locked.{Locked}
-use Rattle.kernel_functions.specs.Later.{locked_of}
+use Rattle.kernel_rules.specs.declared.delays.Delayed.{Delayed}
+use Rattle.kernel_rules.specs.declared.delays.Locked.{Locked}
+use Rattle.kernel_rules.specs.Later.{locked_of}
 use Rattle.probe_findings.specs.declared.words.ProbedLine.{ProbedLine}
 use Rattle.probe_run.specs.declared.actor.Actor.{Actor}
 use Rattle.probe_run.specs.State.{State, actor_at}

@@ -2,7 +2,7 @@
 use Rattle.std.specs.Prelude.{ℕ, nat_le, Bool, true, false, not, ◌&&◌, ◌||◌, ◌==◌, if◌then◌else◌, Option, Some, None, List, [], ◌∷◌, ◌++◌, filter, map, length, nat_lt, position, remove, slice_get, unwrap_or}
 use Rattle.std.specs.List.{list_any}
 use Rattle.trace_data.specs.declared.quantities.Sums.{Sums}
-use Rattle.kernel_functions.specs.declared.delays.Delayed.{Delayed}
+use Rattle.kernel_rules.specs.declared.delays.Delayed.{Delayed}
 use Rattle.probe_findings.specs.declared.words.ProbedLine.{ProbedLine}
 use Rattle.probe_run.specs.declared.rules.Processor.{Processor}
 use Rattle.probe_run.specs.declared.sums.Runqueue.{Runqueue}

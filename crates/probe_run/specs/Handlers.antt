@@ -2,15 +2,15 @@
 use Rattle.std.specs.Prelude.{ℕ, Bool, true, false, ◌&&◌, ◌==◌, if◌then◌else◌}
 use Rattle.std.specs.List.{list_any}
 use Rattle.trace_data.specs.declared.probe.Admitted.{Admitted}
-use Rattle.kernel_entity.specs.declared.entity.Entity.{Entity}
-use Rattle.kernel_functions.specs.declared.delays.Delayed.{Delayed}
-use Rattle.kernel_functions.specs.declared.delays.Delayed.TheVariants.{Moved, ZeroLag}
-use Rattle.kernel_functions.specs.declared.dequeues.Dequeuing.{Dequeuing}
-use Rattle.kernel_functions.specs.declared.exits.Leaving.{Leaving}
-use Rattle.kernel_functions.specs.declared.admissions.Admitting.{Admitting}
-use Rattle.kernel_functions.specs.Dequeue.{dequeuing_of}
-use Rattle.kernel_functions.specs.Leave.{leaving_of}
-use Rattle.kernel_functions.specs.Admit.{admitting_of}
+use Rattle.kernel_rules.specs.declared.entity.Entity.{Entity}
+use Rattle.kernel_rules.specs.declared.delays.Delayed.{Delayed}
+use Rattle.kernel_rules.specs.declared.delays.Delayed.TheVariants.{Moved, ZeroLag}
+use Rattle.kernel_rules.specs.declared.dequeues.Dequeuing.{Dequeuing}
+use Rattle.kernel_rules.specs.declared.exits.Leaving.{Leaving}
+use Rattle.kernel_rules.specs.declared.admissions.Admitting.{Admitting}
+use Rattle.kernel_rules.specs.Dequeue.{dequeuing_of}
+use Rattle.kernel_rules.specs.Leave.{leaving_of}
+use Rattle.kernel_rules.specs.Admit.{admitting_of}
 use Rattle.probe_run.specs.declared.waiting.Effect.{Effect}
 use Rattle.probe_run.specs.declared.waiting.Effect.TheVariants.{Adds, Locks, Returns, MovesOffline}
 use Rattle.probe_run.specs.declared.waiting.PendingEffect.{PendingEffect}

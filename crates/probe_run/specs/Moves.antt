@@ -1,12 +1,12 @@
 -- Three of the four moves of a run: when an effect has its point, when what was read has, when the rest of a dequeue comes.
 use Rattle.std.specs.Prelude.{ℕ, Bool, true, false, not, ◌&&◌, ◌||◌, ◌==◌, if◌then◌else◌, Option, Some, None, List, [], ◌∷◌, ◌++◌, length, nat_lt, position, remove, slice_get}
 use Rattle.std.specs.List.{list_any}
-use Rattle.kernel_entity.specs.declared.entity.Entity.{Entity}
-use Rattle.kernel_entity.specs.declared.sums.SumsChange.{SumsChange}
-use Rattle.kernel_functions.specs.declared.delays.Delayed.{Delayed}
-use Rattle.kernel_functions.specs.declared.delays.Delayed.TheVariants.{Moved, ZeroLag}
-use Rattle.kernel_functions.specs.Dequeue.{off_of}
-use Rattle.kernel_functions.specs.Later.{locked_of}
+use Rattle.kernel_rules.specs.declared.entity.Entity.{Entity}
+use Rattle.kernel_rules.specs.declared.sums.SumsChange.{SumsChange}
+use Rattle.kernel_rules.specs.declared.delays.Delayed.{Delayed}
+use Rattle.kernel_rules.specs.declared.delays.Delayed.TheVariants.{Moved, ZeroLag}
+use Rattle.kernel_rules.specs.Dequeue.{off_of}
+use Rattle.kernel_rules.specs.Later.{locked_of}
 use Rattle.probe_findings.specs.declared.words.ProbedLine.{ProbedLine}
 use Rattle.probe_run.specs.declared.actor.Actor.{Actor}
 use Rattle.probe_run.specs.declared.rules.PlayRules.{PlayRules}

@@ -1,9 +1,9 @@
 -- Threads of schedutil (SCHED_FLAG_SUGOV, dl_entity_is_special): they are in no sum, are not charged and wait for no 0-lag time.
 use Rattle.std.specs.Prelude.{ℕ, Bool, if◌then◌else◌}
 use Rattle.trace_data.specs.declared.quantities.Parameters.{Parameters}
-use Rattle.kernel_entity.specs.declared.entity.Entity.{Entity}
-use Rattle.kernel_entity.specs.Clock.{contains_bits}
-use Rattle.kernel_entity.specs.Reservation.{reserved_of}
+use Rattle.kernel_rules.specs.declared.entity.Entity.{Entity}
+use Rattle.kernel_rules.specs.Clock.{contains_bits}
+use Rattle.kernel_rules.specs.Reservation.{reserved_of}
 
 -- SCHED_FLAG_SUGOV
 abbrev pub is_special : Entity → Bool

@@ -4,7 +4,7 @@ use Rattle.probe_findings.specs.declared.words.Whose.{Whose}
 use Rattle.probe_findings.specs.declared.words.Whose.TheVariants.{Task, Server}
 use Rattle.probe_findings.specs.declared.words.Deviation.{Deviation}
 use Rattle.trace_data.specs.declared.quantities.Parameters.{Parameters}
-use Rattle.kernel_entity.specs.Reservation.{fresh_of}
+use Rattle.kernel_rules.specs.Reservation.{fresh_of}
 use Rattle.probe_run.specs.declared.actor.Actor.{Actor}
 use Rattle.probe_run.specs.declared.rules.Processor.{Processor}
 use Rattle.probe_run.specs.declared.sums.Runqueue.{Runqueue}

@@ -4,11 +4,11 @@ use Rattle.std.specs.List.{list_any}
 use Rattle.trace_data.specs.declared.fixed.TimerFunction.TheVariants.{ZeroLag as ZeroLagTimer, Replenish}
 use Rattle.trace_data.specs.declared.quantities.Sums.{Sums}
 use Rattle.probe_findings.specs.declared.words.ProbedLine.{ProbedLine}
-use Rattle.kernel_entity.specs.declared.sums.SumsChange.{SumsChange}
-use Rattle.kernel_entity.specs.declared.activity.Block.{Block}
-use Rattle.kernel_entity.specs.declared.activity.Block.TheVariants.{Unreserved, ZeroLagTimer as WaitsForZeroLag, Past}
-use Rattle.kernel_entity.specs.Clock.{plus, less}
-use Rattle.kernel_entity.specs.Sums.{share_of}
+use Rattle.kernel_rules.specs.declared.sums.SumsChange.{SumsChange}
+use Rattle.kernel_rules.specs.declared.activity.Block.{Block}
+use Rattle.kernel_rules.specs.declared.activity.Block.TheVariants.{Unreserved, ZeroLagTimer as WaitsForZeroLag, Past}
+use Rattle.kernel_rules.specs.Clock.{plus, less}
+use Rattle.kernel_rules.specs.Sums.{share_of}
 use Rattle.probe_run.specs.declared.actor.Actor.{Actor}
 use Rattle.probe_run.specs.declared.rules.PlayRules.{PlayRules}
 use Rattle.probe_run.specs.declared.rules.Processor.{Processor}

@@ -4,7 +4,7 @@ ghost use Rattle.std.specs.Prelude.{◌≡◌};
 ghost use Rattle.probe_run.specs.State.{unseen_task, unseen_server, server_parameters_of};
 ghost use Rattle.probe_run.specs.Special.{is_special, reservation_of};
 
-use kernel_entity::{Entity, fresh, has, reserved};
+use kernel_rules::{Entity, fresh, has, reserved};
 use probe_findings::Whose;
 use trace_data::Parameters;
 

@@ -13,7 +13,7 @@ use crate::waiting::{
     Awaits, Claim, Effect, OlderDequeue, OpenDequeue, PendingEffect, TimerToArm, UnlockedSum,
     moves_offline,
 };
-use kernel_functions::Delayed;
+use kernel_rules::Delayed;
 use probe_findings::ProbedLine;
 use std::alloc::AllocError;
 use trace_data::Sums;

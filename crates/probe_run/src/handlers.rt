@@ -8,8 +8,7 @@ ghost use Rattle.probe_run.specs.Handlers.{returns_by, is_return_of, handler_run
 use crate::run::Run;
 use crate::waiting::{Effect, PendingEffect};
 use kernel_changes::{RuleChange, admit_by, dequeue_by, leave_by};
-use kernel_entity::Entity;
-use kernel_functions::{Admitting, Delayed, Dequeuing, Leaving};
+use kernel_rules::{Admitting, Delayed, Dequeuing, Entity, Leaving};
 use trace_data::Admitted;
 
 fn returns(number: usize, effect: Effect) -> bool

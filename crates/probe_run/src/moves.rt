@@ -17,8 +17,7 @@ use crate::run::Run;
 use crate::sums::moved_by;
 use crate::waiting::{Claim, Effect, PendingEffect, UnlockedSum, is_same_sum};
 use kernel_changes::lock_by;
-use kernel_entity::{Entity, SumsChange};
-use kernel_functions::Delayed;
+use kernel_rules::{Delayed, Entity, SumsChange};
 use probe_findings::{ExactValue, ProbedLine, Quantity, Why};
 use std::alloc::AllocError;
 

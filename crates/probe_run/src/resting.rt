@@ -1,7 +1,7 @@
 //! What of a dequeue comes after the charge within it (`dequeue_dl_entity`).
 
 ghost use Rattle.std.specs.Prelude.{◌≡◌, ◌<◌, None, OnOk, IfSome, length, not, position};
-ghost use Rattle.kernel_functions.specs.Dequeue.{off_of};
+ghost use Rattle.kernel_rules.specs.Dequeue.{off_of};
 ghost use Rattle.probe_run.specs.Runs.{state_of};
 ghost use Rattle.probe_run.specs.Counting.{Goes, where_it_holds};
 ghost use Rattle.probe_run.specs.Handlers.{handler_runs};
@@ -14,8 +14,7 @@ use crate::notes::Counted;
 use crate::rules::PlayRules;
 use crate::run::Run;
 use crate::waiting::{Awaits, OlderDequeue, OpenDequeue, TimerToArm};
-use kernel_entity::{Block, Entity, SumsChange};
-use kernel_functions::Arrival;
+use kernel_rules::{Arrival, Block, Entity, SumsChange};
 use probe_findings::{ExactRule, ProbedLine, Why};
 use std::alloc::AllocError;
 use trace_data::TimerFunction;
@@ -55,7 +54,7 @@ fn waits_for_enqueue(awaits: Awaits) -> bool
 }
 
 /// The entity off the tree.
-#[tactic(auto, unfolding(kernel_functions::specs::Dequeue::off_of))]
+#[tactic(auto, unfolding(kernel_rules::specs::Dequeue::off_of))]
 fn off(entity: Entity) -> Entity
     ensures { result ≡ off_of entity }
 {

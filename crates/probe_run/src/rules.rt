@@ -1,7 +1,7 @@
 //! By which rules a record is played, and what is known before its first line.
 
 use kernel_changes::RuleChange;
-use kernel_entity::ChargeLaw;
+use kernel_rules::ChargeLaw;
 
 /// By which rules a record is played.
 #[derive(Clone, Copy)]

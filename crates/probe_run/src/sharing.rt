@@ -9,7 +9,7 @@ use crate::rules::Processor;
 use crate::run::Run;
 use crate::sums::{Runqueue, with_no_extra};
 use crate::waiting::{Effect, PendingEffect, UnlockedSum};
-use kernel_entity::{SumsChange, share};
+use kernel_rules::{SumsChange, share};
 use probe_findings::ProbedLine;
 use std::alloc::AllocError;
 

@@ -7,7 +7,7 @@ ghost use Rattle.probe_run.specs.Sums.{is_on, is_domain, moved, changed_runqueue
 
 use crate::run::Run;
 use crate::waiting::UnlockedSum;
-use kernel_entity::SumsChange;
+use kernel_rules::SumsChange;
 use std::alloc::AllocError;
 
 /// How long a call that changes sums by no rule of a task leaves them unknown, in nanoseconds.

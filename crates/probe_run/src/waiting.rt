@@ -4,7 +4,7 @@ ghost use Rattle.std.specs.Prelude.{◌≡◌};
 ghost use Rattle.probe_run.specs.Begin.{moves_offline};
 ghost use Rattle.probe_run.specs.State.{same_sum};
 
-use kernel_functions::Delayed;
+use kernel_rules::Delayed;
 use probe_findings::ProbedLine;
 use trace_data::TimerFunction;
 

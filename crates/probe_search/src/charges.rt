@@ -3,7 +3,7 @@
 use crate::reclaiming::{ReclaimingCharge, has_effect_on, is_open_at, later_extra};
 use crate::shown::ChargedTask;
 use crate::speeds::{UnknownSpeed, cost_told};
-use kernel_entity::{Entity, RECLAIM, has};
+use kernel_rules::{Entity, RECLAIM, has};
 use probe_explain::ProbeLine;
 use probe_run::{PlayRules, Run, is_special};
 use probe_tasks::{AS_SHOWN, LineChoice};

@@ -2,7 +2,7 @@
 
 use crate::handlers::rest_move;
 use crate::shown::is_passed_over;
-use kernel_entity::{REPLENISH, has};
+use kernel_rules::{REPLENISH, has};
 use probe_explain::ProbeLine;
 use probe_run::{Awaits, OpenDequeue, PlayRules, Run, RunMove};
 use std::collections::VecDeque;

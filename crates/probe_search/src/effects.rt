@@ -1,8 +1,7 @@
 //! Pending effects as amounts, and the smallest set of them that gives a value.
 
 use kernel_changes::lock_by;
-use kernel_entity::{Entity, share};
-use kernel_functions::{Delayed, Locked};
+use kernel_rules::{Delayed, Entity, Locked, share};
 use probe_findings::{Amount, PickedEffects, pick};
 use probe_run::{Effect, PendingEffect, PlayRules, Run, UnlockedSum, moves_offline};
 use std::alloc::{AllocError, Global};

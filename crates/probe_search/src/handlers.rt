@@ -1,8 +1,7 @@
 //! When the handler of an inactive timer returns: before a block that arms the timer, and behind one that does not.
 
 use crate::shown::stops;
-use kernel_entity::DEADLINE_POLICY;
-use kernel_functions::Delayed;
+use kernel_rules::{DEADLINE_POLICY, Delayed};
 use probe_explain::ProbeLine;
 use probe_run::{Effect, OpenDequeue, PlayRules, Run, RunMove};
 use std::collections::VecDeque;

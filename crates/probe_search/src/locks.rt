@@ -2,8 +2,7 @@
 
 use crate::effects::{Candidates, is_gone, lock_amount};
 use crate::shown::{ShownEntity, shown_entity, shown_sums};
-use kernel_entity::{REPLENISH, WAKEUP, has};
-use kernel_functions::Delayed;
+use kernel_rules::{Delayed, REPLENISH, WAKEUP, has};
 use probe_explain::ProbeLine;
 use probe_findings::Amount;
 use probe_run::{Effect, PendingEffect, PlayRules, Run, RunMove};

@@ -2,7 +2,7 @@
 
 use crate::shown::{ChargedTask, NextBudget, next_budget};
 use kernel_changes::cost_by;
-use kernel_entity::{ChargedRunqueue, Entity, charged};
+use kernel_rules::{ChargedRunqueue, Entity, charged};
 use probe_explain::ProbeLine;
 use probe_run::{Effect, PlayRules, Run, UnlockedSum};
 use probe_tasks::law_shown;

@@ -1,6 +1,6 @@
 //! What lines show.
 
-use kernel_entity::{WAKEUP, has};
+use kernel_rules::{WAKEUP, has};
 use probe_explain::ProbeLine;
 use probe_run::Run;
 use std::collections::VecDeque;

@@ -1,6 +1,6 @@
 //! A search that tells what it chose: each move is a line of text, in the order in which it was made.
 
-use kernel_functions::Delayed;
+use kernel_rules::Delayed;
 use probe_explain::{ProbeLine, Search, Step};
 use probe_run::{Effect, PendingEffect, Run, RunMove, UnlockedSum};
 use probe_tasks::LineChoice;

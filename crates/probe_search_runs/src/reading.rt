@@ -1,7 +1,6 @@
 //! A record's lines of probes, and what its notes say.
 
-use kernel_entity::{ChargeLaw, ratio};
-use kernel_versions::{charge_law, has_servers};
+use kernel_rules::{ChargeLaw, charge_law, has_servers, ratio};
 use probe_explain::ProbeLine;
 use probe_findings::{LawSettings, ProbedLine, ServerNote};
 use probe_lines::event_of;

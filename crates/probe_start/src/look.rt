@@ -6,7 +6,7 @@ ghost use Rattle.probe_start.specs.Notes.{noted_processor};
 
 use crate::notes::{CpuNote, StartNotes};
 use kernel_changes::RuleChange;
-use kernel_entity::{ChargeLaw, DEADLINE_POLICY, has, ratio};
+use kernel_rules::{ChargeLaw, DEADLINE_POLICY, has, ratio};
 use probe_findings::{
     TaskSeen, is_older, nothing_seen, shown_elsewhere, shown_in_class, with_admission,
 };

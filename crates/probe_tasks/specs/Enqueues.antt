@@ -3,13 +3,13 @@ use Rattle.std.specs.Prelude.{ℕ, pos, int_le, Bool, true, false, not, ◌&&◌
 use Rattle.std.specs.List.{list_any}
 use Rattle.trace_data.specs.declared.quantities.Parameters.{Parameters}
 use Rattle.trace_data.specs.declared.probe.Enqueued.{Enqueued}
-use Rattle.kernel_entity.specs.declared.sums.SumsChange.{SumsChange}
-use Rattle.kernel_entity.specs.declared.flags.TheConstants.{WAKEUP, REPLENISH}
-use Rattle.kernel_entity.specs.Clock.{plus, less, signed, comes_before, contains_bits}
+use Rattle.kernel_rules.specs.declared.sums.SumsChange.{SumsChange}
+use Rattle.kernel_rules.specs.declared.flags.TheConstants.{WAKEUP, REPLENISH}
+use Rattle.kernel_rules.specs.Clock.{plus, less, signed, comes_before, contains_bits}
 use Rattle.probe_run.specs.Special.{reservation_of}
-use Rattle.kernel_functions.specs.declared.delays.Delayed.{Delayed}
-use Rattle.kernel_functions.specs.declared.delays.Delayed.TheVariants.{Moved, ZeroLag}
-use Rattle.kernel_functions.specs.Enqueue.{enqueuing_of}
+use Rattle.kernel_rules.specs.declared.delays.Delayed.{Delayed}
+use Rattle.kernel_rules.specs.declared.delays.Delayed.TheVariants.{Moved, ZeroLag}
+use Rattle.kernel_rules.specs.Enqueue.{enqueuing_of}
 use Rattle.probe_findings.specs.declared.words.ProbedLine.{ProbedLine}
 use Rattle.probe_run.specs.declared.actor.Actor.{Actor}
 use Rattle.probe_run.specs.declared.rules.PlayRules.{PlayRules}

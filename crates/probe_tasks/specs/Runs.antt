@@ -4,15 +4,15 @@ use Rattle.std.specs.Int.{w64, cast_unsigned}
 use Rattle.trace_data.specs.declared.probe.Updated.{Updated}
 use Rattle.trace_data.specs.declared.probe.Ran.{Ran}
 use Rattle.trace_data.specs.declared.probe.Ran.TheVariants.{Span, Clocks}
-use Rattle.kernel_entity.specs.declared.charge.ChargedRunqueue.{ChargedRunqueue}
-use Rattle.kernel_entity.specs.declared.charge.ChargeLaw.{ChargeLaw}
-use Rattle.kernel_entity.specs.declared.charge.ChargeLaw.TheVariants.{LinuxBefore65, LinuxFrom65, Documentation}
-use Rattle.kernel_entity.specs.declared.entity.Entity.{Entity}
-use Rattle.kernel_entity.specs.declared.flags.TheConstants.{RECLAIM}
-use Rattle.kernel_entity.specs.Clock.{less, times, signed, contains_bits}
-use Rattle.kernel_entity.specs.Charge.{cost_of}
-use Rattle.kernel_entity.specs.Budget.{charged_of}
-use Rattle.kernel_functions.specs.Spend.{spending_of}
+use Rattle.kernel_rules.specs.declared.charge.ChargedRunqueue.{ChargedRunqueue}
+use Rattle.kernel_rules.specs.declared.charge.ChargeLaw.{ChargeLaw}
+use Rattle.kernel_rules.specs.declared.charge.ChargeLaw.TheVariants.{LinuxBefore65, LinuxFrom65, Documentation}
+use Rattle.kernel_rules.specs.declared.entity.Entity.{Entity}
+use Rattle.kernel_rules.specs.declared.flags.TheConstants.{RECLAIM}
+use Rattle.kernel_rules.specs.Clock.{less, times, signed, contains_bits}
+use Rattle.kernel_rules.specs.Charge.{cost_of}
+use Rattle.kernel_rules.specs.Budget.{charged_of}
+use Rattle.kernel_rules.specs.Spend.{spending_of}
 use Rattle.probe_findings.specs.declared.words.ProbedLine.{ProbedLine}
 use Rattle.probe_run.specs.declared.actor.Actor.{Actor}
 use Rattle.probe_run.specs.declared.rules.PlayRules.{PlayRules}

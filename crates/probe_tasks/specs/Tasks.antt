@@ -5,12 +5,12 @@ use Rattle.trace_data.specs.declared.probe.Dequeued.{Dequeued}
 use Rattle.trace_data.specs.declared.probe.Migrating.{Migrating}
 use Rattle.trace_data.specs.declared.probe.LeftClass.{LeftClass}
 use Rattle.trace_data.specs.declared.probe.Admitted.{Admitted}
-use Rattle.kernel_entity.specs.declared.flags.TheConstants.{DEADLINE_POLICY}
-use Rattle.kernel_entity.specs.Clock.{times, contains_bits}
-use Rattle.kernel_entity.specs.Reservation.{cleared_of}
-use Rattle.kernel_functions.specs.declared.delays.Delayed.TheVariants.{Moved}
-use Rattle.kernel_functions.specs.Leave.{outside_of}
-use Rattle.kernel_functions.specs.Admit.{wanted_of}
+use Rattle.kernel_rules.specs.declared.flags.TheConstants.{DEADLINE_POLICY}
+use Rattle.kernel_rules.specs.Clock.{times, contains_bits}
+use Rattle.kernel_rules.specs.Reservation.{cleared_of}
+use Rattle.kernel_rules.specs.declared.delays.Delayed.TheVariants.{Moved}
+use Rattle.kernel_rules.specs.Leave.{outside_of}
+use Rattle.kernel_rules.specs.Admit.{wanted_of}
 use Rattle.probe_findings.specs.declared.words.ProbedLine.{ProbedLine}
 use Rattle.probe_run.specs.declared.actor.Actor.{Actor}
 use Rattle.probe_run.specs.declared.rules.PlayRules.{PlayRules}

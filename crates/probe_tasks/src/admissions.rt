@@ -1,13 +1,12 @@
 //! A reservation is asked for (`sched_dl_overflow`, and what of sched_setattr(2) follows under the same lock).
 
 ghost use Rattle.std.specs.Prelude.{◌≡◌, None, OnOk, IfOk};
-ghost use Rattle.kernel_functions.specs.Admit.{wanted_of};
+ghost use Rattle.kernel_rules.specs.Admit.{wanted_of};
 ghost use Rattle.probe_run.specs.Runs.{state_of};
 ghost use Rattle.probe_tasks.specs.Tasks.{total_read, starts_anew, living_state, living_number, known_by, room_of, admitted_ordinary, admitted_unseen, admitted_known, admitted_actor, admitted_with, admitted_deadline, admitted_by};
 ghost use Rattle.probe_run.specs.Sums.{change as changed_sums, share_in};
 
-use kernel_entity::{DEADLINE_POLICY, Entity, SumsChange, cleared, has};
-use kernel_functions::{Admission, wanted};
+use kernel_rules::{Admission, DEADLINE_POLICY, Entity, SumsChange, cleared, has, wanted};
 use probe_findings::{ExactRule, ProbedLine};
 use probe_run::{Actor, PlayRules, Run, UnlockedSum, admit_while, reserve};
 use std::alloc::AllocError;

@@ -9,7 +9,7 @@ ghost use Rattle.probe_tasks.specs.Runs.{delta_by, max_bw_by, shows_max_bw, law_
 
 use crate::choice::LineChoice;
 use kernel_changes::{charging_by, cost_by};
-use kernel_entity::{Charge, ChargeLaw, ChargedRunqueue, Entity, RECLAIM, charged, has};
+use kernel_rules::{Charge, ChargeLaw, ChargedRunqueue, Entity, RECLAIM, charged, has};
 use probe_findings::{ExactValue, ProbedLine, Quantity};
 use probe_run::{ComparedValue, Counted, PlayRules, Run};
 use std::alloc::AllocError;

@@ -2,21 +2,21 @@
 #![tactic(auto, using(probe_values::proofs::Steps::both, probe_values::proofs::Steps::both_at))]
 
 ghost use Rattle.std.specs.Prelude.{◌≡◌, ◌&&◌, None, OnOk, true};
-ghost use Rattle.kernel_functions.specs.Leave.{outside_of};
+ghost use Rattle.kernel_rules.specs.Leave.{outside_of};
 ghost use Rattle.probe_run.specs.Runs.{state_of};
 ghost use Rattle.probe_run.specs.Counting.{Goes, Holds};
 ghost use Rattle.probe_run.specs.Handlers.{handler_runs};
 ghost use Rattle.probe_values.specs.Shown.{sums_agree, left_agrees};
 ghost use Rattle.probe_tasks.specs.Tasks.{left_known, left_unknown, left_shown_by, left_next, left_with, left_by};
 
-use kernel_entity::Entity;
+use kernel_rules::Entity;
 use probe_findings::{ExactRule, ProbedLine};
 use probe_run::{Actor, BlockedEntity, PlayRules, Run, is_special, leave_while};
 use probe_values::{Compared, check_sums, compare_left, shown_left};
 use std::alloc::AllocError;
 use trace_data::LeftClass;
 
-#[tactic(auto, unfolding(kernel_functions::specs::Leave::outside_of))]
+#[tactic(auto, unfolding(kernel_rules::specs::Leave::outside_of))]
 fn outside(entity: Entity) -> Entity
     ensures { result ≡ outside_of entity }
 {

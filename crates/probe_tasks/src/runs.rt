@@ -15,8 +15,7 @@ use crate::costs::{
     can_cost, charged_runqueue, check_capacity, delta_of, full_cost, law_shown, ran, with_charge,
 };
 use kernel_changes::{charging_by, spend_by};
-use kernel_entity::{Charge, Entity};
-use kernel_functions::{Spending, Spent};
+use kernel_rules::{Charge, Entity, Spending, Spent};
 use probe_findings::{ExactRule, ProbedLine};
 use probe_run::{Actor, LastCharge, PlayRules, Run, UnlockedSum, is_special};
 use probe_values::{

@@ -8,7 +8,7 @@ ghost use Rattle.probe_values.specs.Shown.{sums_agree, dequeued_agrees};
 ghost use Rattle.probe_tasks.specs.Tasks.{before_dequeue, dequeued_next, dequeued_with, dequeued_by, migrating_actor, migrating_with, migrating_by};
 
 use crate::expected::yields_off_the_tree;
-use kernel_functions::Delayed;
+use kernel_rules::Delayed;
 use probe_findings::{ExactRule, ProbedLine};
 use probe_run::{Actor, Awaits, OpenDequeue, PlayRules, Run};
 use probe_values::{

@@ -7,7 +7,7 @@ use Rattle.trace_data.specs.declared.quantities.Parameters.{Parameters}
 use Rattle.trace_data.specs.declared.probe.Enqueued.{Enqueued}
 use Rattle.trace_data.specs.declared.probe.Dequeued.{Dequeued}
 use Rattle.trace_data.specs.declared.probe.LeftClass.{LeftClass}
-use Rattle.kernel_entity.specs.Clock.{plus, signed, comes_before, contains_bits}
+use Rattle.kernel_rules.specs.Clock.{plus, signed, comes_before, contains_bits}
 use Rattle.probe_run.specs.Special.{reservation_of}
 use Rattle.probe_run.specs.declared.actor.Actor.{Actor}
 use Rattle.probe_run.specs.State.{State}

@@ -6,7 +6,7 @@ ghost use Rattle.probe_run.specs.State.{keep_at};
 ghost use Rattle.probe_run.specs.Sums.{change, start_timer_in, block_in};
 ghost use Rattle.probe_run.specs.Begin.{sums_read};
 
-use kernel_entity::{Block, Contention, SumsChange};
+use kernel_rules::{Block, Contention, SumsChange};
 use probe_findings::{ExactRule, ProbedLine};
 use probe_run::{Actor, BlockedEntity, PlayRules, Run};
 use std::alloc::AllocError;

@@ -3,7 +3,7 @@
 ghost use Rattle.std.specs.Prelude.{◌≡◌};
 ghost use Rattle.probe_values.specs.Shown.{enqueued_shown, keeps_new, dequeued_shown, left_shown, contending_shown, yielded_by};
 
-use kernel_entity::{Entity, has};
+use kernel_rules::{Entity, has};
 use probe_run::{Actor, reserve};
 use trace_data::{Budget, Dequeued, Enqueued, LeftClass};
 

@@ -1,7 +1,7 @@
 //! The rule behind a deviation, as a line of arithmetic with the numbers that went into it.
 
 use crate::writing::put;
-use kernel_entity::{ChargeLaw, ratio};
+use kernel_rules::{ChargeLaw, ratio};
 use probe_findings::ExactRule;
 use probe_run::LastCharge;
 use std::alloc::{AllocError, Global};

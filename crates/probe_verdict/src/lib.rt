@@ -7,6 +7,7 @@ mod deviation;
 mod evidence;
 mod explanation;
 mod heading;
+mod marks;
 mod names;
 mod table;
 mod text;
@@ -18,6 +19,7 @@ pub use deviation::put_answer;
 pub use evidence::{Evidence, put_evidence};
 pub use explanation::{Trial, explains, is_guess, put_explanation};
 pub use heading::{DroppedLines, NamedTask, ProbeHeading};
+pub use marks::{MarkCount, Marks};
 pub use names::{
     KINDS, event_name, function_of, kind_name, quantity_name, rule_function, rule_name,
 };

@@ -1,6 +1,6 @@
 //! Words for what is compared, and the kernel's functions behind them.
 
-use kernel_versions::{UpdateFunction, has_servers, release_of};
+use kernel_rules::{UpdateFunction, has_servers, release_of};
 use probe_findings::{ExactRule, ProbedFunction, Quantity, QuantityKind};
 use trace_data::Kernel;
 

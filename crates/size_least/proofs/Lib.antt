@@ -5,3 +5,5 @@ pub mod Monotone
 pub mod Told
 pub mod Curve
 pub mod Rise
+pub mod LateInPlays
+pub mod Renewed

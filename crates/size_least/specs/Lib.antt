@@ -4,3 +4,4 @@ pub mod Least
 pub mod inside
 pub mod Heights
 pub mod Needs
+pub mod Plays

@@ -1,8 +1,8 @@
 -- What is printed where a record is sized, and the fault of a task that is asked for.
 use Rattle.std.specs.Prelude.{◌≡◌, ℕ, List, Option}
 use Rattle.std.specs.Io.KnownBytes.{Appends}
-use Rattle.trace_faults.specs.declared.fault.Fault.{Fault}
-use Rattle.trace_faults.specs.declared.fault.Fault.TheVariants.{NoSuchTask, NoJobs}
+use Rattle.trace_options.specs.declared.fault.Fault.{Fault}
+use Rattle.trace_options.specs.declared.fault.Fault.TheVariants.{NoSuchTask, NoJobs}
 
 -- a text was printed whole, and nothing else
 abbrev pub PrintsWhole : Option (List ℕ) → Option (List ℕ) → Type 0

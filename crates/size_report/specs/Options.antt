@@ -4,7 +4,7 @@ use Rattle.std.specs.Option.{ok_or, option_map_or}
 use Rattle.std.specs.List.{list_any}
 use Rattle.std.specs.Path.{rsplit_once}
 use Rattle.std.specs.Str.{bytes_eq}
-use Rattle.grub_bw.specs.Bandwidth.{Reservation, bandwidth_of, reservation_fits}
+use Rattle.grub_book.specs.Bandwidth.{Reservation, bandwidth_of, reservation_fits}
 use Rattle.trace_fields.specs.Words.{text_of}
 use Rattle.trace_probes.specs.Numerals.{numeral}
 use Rattle.trace_options.specs.Settings.{and_then}

@@ -9,7 +9,7 @@ ghost use Rattle.size_report.specs.Options.{admitted, asked_by, asked_in, asked_
 ghost use Rattle.size_report.specs.inside.Texts.{first_waiting, is_named, named_text};
 
 use crate::sizing::{PERIOD_LEAST, PERIOD_MOST};
-use grub_bw::Params;
+use grub_book::Params;
 use std::alloc::{AllocError, Global};
 use trace_options::last_parts;
 use trace_probes::numeral;

@@ -9,7 +9,7 @@ use size_jobs::{JobFault, JobLines, JobRecord};
 use std::alloc::Global;
 use std::io;
 use text_bytes::Source;
-use trace_faults::Fault;
+use trace_options::Fault;
 use trace_file::{ReadFault, read_lines};
 use trace_lines::Halt;
 

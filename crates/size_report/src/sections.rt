@@ -23,7 +23,7 @@ use size_admission::Proposal;
 use size_jobs::{JobRecord, JobTask};
 use size_least::{Job, first_late, late_count};
 use std::alloc::{AllocError, Global};
-use trace_faults::Fault;
+use trace_options::Fault;
 use trace_probes::numeral;
 
 /// What is printed of the tasks so far, and what is proposed for them.

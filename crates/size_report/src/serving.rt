@@ -8,8 +8,8 @@ ghost use Rattle.size_report.specs.Answers.{IsAnswer, IsWith, PrintsFor, domain_
 ghost use Rattle.size_report.specs.Faults.{PrintsWhole};
 ghost use Rattle.size_report.specs.Options.{said_by};
 ghost use Rattle.size_report.specs.inside.Sections.{sections_in};
-ghost use Rattle.trace_faults.specs.Faults.{status_of};
-ghost use Rattle.trace_faults.specs.declared.fault.TheConstants.{STATUS_FILE, STATUS_SYSTEM};
+ghost use Rattle.trace_options.specs.Faults.{status_of};
+ghost use Rattle.trace_options.specs.declared.fault.TheConstants.{STATUS_FILE, STATUS_SYSTEM};
 
 use crate::census::{census_text, duration};
 use crate::options::SizeOptions;
@@ -21,7 +21,7 @@ use size_jobs::JobRecord;
 use std::alloc::{AllocError, Global};
 use std::io;
 use std::io::Write;
-use trace_faults::Fault;
+use trace_options::Fault;
 use trace_file::Files;
 
 fn machine_of(record: &JobRecord, options: &SizeOptions<'_>) -> RootDomain

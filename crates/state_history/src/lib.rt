@@ -4,13 +4,21 @@
 //! clock, bandwidths units of 2^-20 of a processor.
 #![tactic(auto)]
 
+mod document;
+mod event;
 mod history;
+mod member;
 mod playing;
 mod probed;
 mod scene;
 mod span;
 mod state;
 
+pub use document::put_document;
+pub use event::{
+    budget_event, deviation_event, extra_event, micros, running_event, runqueue_event, slice_event,
+    task_event, tasks_event, this_event, timer_event,
+};
 pub use history::{BudgetSlice, History, Slice, SumsSlice};
 pub use playing::{see_task, states_of};
 pub use probed::{ProbeLine, ProbedStates};

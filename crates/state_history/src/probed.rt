@@ -1,7 +1,7 @@
 //! A record's states as its lines of probes show them: the kernel's own budgets, flags and sums, line by line.
 
 use crate::{History, Slice, Span, TaskState};
-use kernel_entity::{DEADLINE_POLICY, REPLENISH, WAKEUP, has};
+use kernel_rules::{DEADLINE_POLICY, REPLENISH, WAKEUP, has};
 use std::alloc::{AllocError, Global};
 use std::collections::HashMap;
 use timer_tasks::{Observation, ObservedAnswer, TimerKind};

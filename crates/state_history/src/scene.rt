@@ -1,7 +1,6 @@
 //! What is shown of a record.
 
-use crate::history::History;
-use crate::span::Span;
+use crate::{history::History, span::Span};
 use timer_tasks::Observation;
 
 /// A task's pid, and its comm.

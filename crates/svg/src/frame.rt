@@ -3,7 +3,7 @@
 ghost use Rattle.std.specs.Prelude.{◌≡◌, ◌<◌, ◌^◌};
 ghost use Rattle.svg.specs.inside.Axis.{first_multiple, multiples};
 
-use grub_bw::BW_UNIT;
+use grub_book::BW_UNIT;
 
 /// How many pixels wide the part is that has the time.
 const PLOT: u64 = 1024;

@@ -4,7 +4,7 @@ use crate::rules::{
     block_difference, fired_by, moved_by, ran_by, refilled_by, start_answer, woken_by,
 };
 use kernel_changes::RuleChange;
-use kernel_entity::{ChargeLaw, has_timer_ahead, share};
+use kernel_rules::{ChargeLaw, has_timer_ahead, share};
 use std::alloc::AllocError;
 use std::collections::HashMap;
 use timer_play::{Owner, RecordSetup, TimedMachine};

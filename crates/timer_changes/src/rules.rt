@@ -1,7 +1,7 @@
 //! What a line of a record does to a task, with one rule changed.
 
 use kernel_changes::{RuleChange, cost_by, enqueue_by};
-use kernel_entity::{
+use kernel_rules::{
     ChargeLaw, ChargedRunqueue, Entity, QUEUED, REPLENISH, WAKEUP, charged, replenished, waking,
     woken, zero_lag,
 };

@@ -4,19 +4,19 @@ use Rattle.std.specs.Int.{w64, cast_unsigned}
 use Rattle.trace_data.specs.declared.note.Kernel.{Kernel}
 use Rattle.trace_data.specs.declared.note.Limit.{Limit}
 use Rattle.trace_data.specs.declared.note.Limit.TheVariants.{MaxBw, Runtime}
-use Rattle.kernel_entity.specs.Clock.{less, ratio_of, times}
-use Rattle.kernel_entity.specs.Sums.{share_of}
-use Rattle.kernel_entity.specs.declared.charge.ChargeLaw.{ChargeLaw}
-use Rattle.kernel_entity.specs.declared.charge.ChargeLaw.TheVariants.{Documentation}
-use Rattle.kernel_versions.specs.Releases.{charge_law, release_of, wants_sums}
+use Rattle.kernel_rules.specs.Clock.{less, ratio_of, times}
+use Rattle.kernel_rules.specs.Sums.{share_of}
+use Rattle.kernel_rules.specs.declared.charge.ChargeLaw.{ChargeLaw}
+use Rattle.kernel_rules.specs.declared.charge.ChargeLaw.TheVariants.{Documentation}
+use Rattle.kernel_rules.specs.Releases.{charge_law, release_of, wants_sums}
 use Rattle.timer_play.specs.declared.setup.FairServer.{FairServer}
 use Rattle.timer_play.specs.declared.setup.FairServer.TheVariants as fair
 use Rattle.timer_play.specs.declared.setup.Limits.{Limits}
 use Rattle.timer_play.specs.declared.setup.NoSums.{NoSums}
 use Rattle.timer_play.specs.declared.setup.KernelSettings.{KernelSettings}
 use Rattle.timer_play.specs.declared.setup.RecordStart.{RecordStart}
-use Rattle.kernel_versions.specs.declared.table.Servers.{Servers}
-use Rattle.kernel_versions.specs.declared.table.Servers.TheVariants.{Absent, StopWithTimer, StopAtPick}
+use Rattle.kernel_rules.specs.declared.table.Servers.{Servers}
+use Rattle.kernel_rules.specs.declared.table.Servers.TheVariants.{Absent, StopWithTimer, StopAtPick}
 use Rattle.timer_play.specs.declared.setup.RecordSetup.{RecordSetup}
 
 -- sched_rt_runtime_us is -1

@@ -2,7 +2,7 @@
 use Rattle.std.specs.Prelude.{ℕ, List, Option, Some, None, slice_get, slice_set}
 use Rattle.trace_data.specs.declared.quantities.Sums.{Sums}
 use Rattle.timer_record.specs.declared.event.KeptLine.{KeptLine}
-use Rattle.kernel_entity.specs.Clock.{plus, less}
+use Rattle.kernel_rules.specs.Clock.{plus, less}
 use Rattle.timer_tasks.specs.declared.observation.ObservedAnswer.{ObservedAnswer}
 use Rattle.timer_tasks.specs.declared.observation.TimerKind.{TimerKind}
 use Rattle.timer_tasks.specs.declared.observation.Moments.{Moments}

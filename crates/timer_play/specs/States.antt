@@ -1,6 +1,6 @@
 -- The tasks and runqueues of a record, and what each line makes of them.
 use Rattle.std.specs.Prelude.{ℕ, Bool, false, ◌==◌, if◌then◌else◌, List, [], ◌∷◌, ◌++◌, Option, Some, None, slice_get, slice_set}
-use Rattle.kernel_entity.specs.declared.charge.ChargedRunqueue.{ChargedRunqueue}
+use Rattle.kernel_rules.specs.declared.charge.ChargedRunqueue.{ChargedRunqueue}
 use Rattle.timer_tasks.specs.declared.observation.Observation.{Observation}
 use Rattle.timer_tasks.specs.declared.runqueue.Runqueue.{Runqueue}
 use Rattle.timer_tasks.specs.declared.server.ServerState.{ServerState}

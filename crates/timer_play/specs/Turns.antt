@@ -2,11 +2,11 @@
 use Rattle.std.specs.Prelude.{ℕ, nat_le, Bool, false, not, ◌&&◌, ◌||◌, ◌==◌, if◌then◌else◌, Option, Some, None, is_some, unwrap_or}
 use Rattle.trace_data.specs.declared.fixed.Stop.{Stop}
 use Rattle.trace_data.specs.declared.quantities.Parameters.{Parameters}
-use Rattle.kernel_entity.specs.Budget.{timer_is_ahead}
-use Rattle.kernel_entity.specs.Clock.{contains_bits}
-use Rattle.kernel_entity.specs.declared.charge.ChargeLaw.{ChargeLaw}
-use Rattle.kernel_entity.specs.declared.charge.ChargedRunqueue.{ChargedRunqueue}
-use Rattle.kernel_entity.specs.declared.flags.TheConstants.{RECLAIM}
+use Rattle.kernel_rules.specs.Budget.{timer_is_ahead}
+use Rattle.kernel_rules.specs.Clock.{contains_bits}
+use Rattle.kernel_rules.specs.declared.charge.ChargeLaw.{ChargeLaw}
+use Rattle.kernel_rules.specs.declared.charge.ChargedRunqueue.{ChargedRunqueue}
+use Rattle.kernel_rules.specs.declared.flags.TheConstants.{RECLAIM}
 use Rattle.timer_record.specs.declared.event.KeptLine.{KeptLine}
 use Rattle.timer_tasks.specs.declared.activity.Knowledge.{Knowledge}
 use Rattle.timer_tasks.specs.declared.activity.Knowledge.TheVariants.{Known, Unknown}

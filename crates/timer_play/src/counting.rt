@@ -1,7 +1,7 @@
 //! Which rule a line puts to the test.
 
 use crate::counts::TimerRule;
-use kernel_entity::{Charge, Wake};
+use kernel_rules::{Charge, Wake};
 use timer_tasks::{Throttling, Waking};
 
 /// The rule that a wake puts to the test.

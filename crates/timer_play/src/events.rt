@@ -13,7 +13,7 @@ use crate::turns::{
     at_charge, at_move, at_open, at_refill, at_run, at_sight, at_switch, at_wake, is_edge_wake,
     runs, runs_late, wakes,
 };
-use kernel_entity::{ChargedRunqueue, charging, cost};
+use kernel_rules::{ChargedRunqueue, charging, cost};
 use std::alloc::AllocError;
 use timer_record::{KeptLine, TaskLines};
 use timer_tasks::{

@@ -11,7 +11,7 @@ use crate::place::{
 };
 use crate::terms::PlayTerms;
 use crate::turns::at_open;
-use kernel_entity::Charge;
+use kernel_rules::Charge;
 use std::alloc::AllocError;
 use timer_record::KeptLine;
 use timer_tasks::{
@@ -145,11 +145,11 @@ impl TimedMachine {
     }
 
     /// What a charge on a CPU reads.
-    pub fn charging_runqueue(&self, cpu: u32) -> kernel_entity::ChargedRunqueue
+    pub fn charging_runqueue(&self, cpu: u32) -> kernel_rules::ChargedRunqueue
         ensures { result ≡ runqueue_for cpu (state_of self.now) }
     {
         let limits = self.terms.setup.limits(cpu);
-        kernel_entity::ChargedRunqueue {
+        kernel_rules::ChargedRunqueue {
             sums: self.sums(cpu),
             max_bw: limits.max_bw,
             bw_ratio: limits.bw_ratio,

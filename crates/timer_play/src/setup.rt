@@ -3,8 +3,7 @@
 ghost use Rattle.std.specs.Prelude.{◌≡◌, ◌-◌, ◌^◌, fold, min};
 ghost use Rattle.timer_play.specs.Kernels.{first_extra_of, fixed_of, inverse_of, is_absent, law_for, limits_at, limits_by, no_limits, other_limits_by, picks_of, server_bw_by, setup_by, stops_with_timer_of};
 
-use kernel_entity::{BW_UNIT, ChargeLaw, ratio, share};
-use kernel_versions::{Servers, charge_law, release_of, wants_sums};
+use kernel_rules::{BW_UNIT, ChargeLaw, Servers, charge_law, ratio, release_of, share, wants_sums};
 use std::alloc::{AllocError, Global};
 use trace_data::{Kernel, Limit, Sums};
 

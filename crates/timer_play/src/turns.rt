@@ -1,11 +1,11 @@
 //! What becomes of a task at a line that is about it.
 
 ghost use Rattle.std.specs.Prelude.{◌≡◌, ◌&&◌, not, unwrap_or};
-ghost use Rattle.kernel_entity.specs.Budget.{timer_is_ahead};
+ghost use Rattle.kernel_rules.specs.Budget.{timer_is_ahead};
 ghost use Rattle.timer_play.specs.Turns.{at_charge_of, at_hold_of, at_move_of, at_open_of, at_refill_of, at_run_of, at_sight_of, at_switch_of, at_wake_of, forgotten, is_edge_at, is_open_by, runs_of, wakes_of};
 
 use crate::terms::PlayTerms;
-use kernel_entity::{ChargeLaw, ChargedRunqueue, RECLAIM, has, has_timer_ahead};
+use kernel_rules::{ChargeLaw, ChargedRunqueue, RECLAIM, has, has_timer_ahead};
 use timer_record::KeptLine;
 use timer_tasks::{
     DeadlineTask, Knowledge, Waking, blocked, charged_at, is_awake, is_edge, is_tested, moved, ran,

@@ -1,7 +1,7 @@
 -- What a task or a fair server has in the sums.
 use Rattle.std.specs.Prelude.{ℕ, if◌then◌else◌}
-use Rattle.kernel_entity.specs.Clock.{plus, less}
-use Rattle.kernel_entity.specs.Sums.{share_of}
+use Rattle.kernel_rules.specs.Clock.{plus, less}
+use Rattle.kernel_rules.specs.Sums.{share_of}
 use Rattle.timer_tasks.specs.declared.activity.Activity.{Activity}
 use Rattle.timer_tasks.specs.declared.activity.Activity.TheVariants.{Inactive, Away}
 use Rattle.timer_tasks.specs.declared.effect.BandwidthShare.{BandwidthShare}

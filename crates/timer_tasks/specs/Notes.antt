@@ -3,10 +3,10 @@ use Rattle.std.specs.Prelude.{ℕ, Bool, true, false, not, ◌&&◌, if◌then�
 use Rattle.trace_data.specs.declared.note.Policy.{Policy}
 use Rattle.trace_data.specs.declared.note.Policy.TheVariants.{Deadline, Other}
 use Rattle.trace_data.specs.declared.quantities.Parameters.{Parameters}
-use Rattle.kernel_entity.specs.Clock.{comes_before}
-use Rattle.kernel_entity.specs.Budget.{renewed_of}
-use Rattle.kernel_entity.specs.Reservation.{reserved_of}
-use Rattle.kernel_entity.specs.declared.entity.Entity.{Entity}
+use Rattle.kernel_rules.specs.Clock.{comes_before}
+use Rattle.kernel_rules.specs.Budget.{renewed_of}
+use Rattle.kernel_rules.specs.Reservation.{reserved_of}
+use Rattle.kernel_rules.specs.declared.entity.Entity.{Entity}
 use Rattle.timer_tasks.specs.declared.activity.Activity.{Activity}
 use Rattle.timer_tasks.specs.declared.activity.Activity.TheVariants.{Contending, NonContending, Inactive, Away}
 use Rattle.timer_tasks.specs.declared.activity.Knowledge.TheVariants.{Known, Unknown}

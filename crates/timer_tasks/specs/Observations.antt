@@ -2,8 +2,8 @@
 use Rattle.std.specs.Prelude.{ℕ, ℤ, pos, unsigned_abs, nat_le, nat_lt, ◌&&◌, ◌||◌, if◌then◌else◌, Option, Some, None, unwrap_or}
 use Rattle.std.specs.Int.{w64, cast_unsigned, int_max}
 use Rattle.trace_data.specs.declared.fixed.Stop.{Stop}
-use Rattle.kernel_entity.specs.Activity.{zero_lag_of}
-use Rattle.kernel_entity.specs.Clock.{plus, less, signed}
+use Rattle.kernel_rules.specs.Activity.{zero_lag_of}
+use Rattle.kernel_rules.specs.Clock.{plus, less, signed}
 use Rattle.timer_tasks.specs.declared.activity.Knowledge.{Knowledge}
 use Rattle.timer_tasks.specs.declared.activity.Knowledge.TheVariants.{Known, Edge, Gap}
 use Rattle.timer_tasks.specs.declared.observation.ObservedAnswer.{ObservedAnswer}

@@ -2,11 +2,11 @@
 use Rattle.std.specs.Prelude.{ℕ, Bool, true, false, not, ◌&&◌, ◌||◌, if◌then◌else◌, Some, None, is_some, unwrap_or}
 use Rattle.trace_data.specs.declared.fixed.Stop.{Stop}
 use Rattle.trace_data.specs.declared.fixed.Stop.TheVariants.{Ready, Ends}
-use Rattle.kernel_entity.specs.Reservation.{fresh_of}
-use Rattle.kernel_entity.specs.Charge.{cost_of}
-use Rattle.kernel_entity.specs.Budget.{charged_of, replenished_of}
-use Rattle.kernel_entity.specs.declared.charge.ChargeLaw.{ChargeLaw}
-use Rattle.kernel_entity.specs.declared.charge.ChargedRunqueue.{ChargedRunqueue}
+use Rattle.kernel_rules.specs.Reservation.{fresh_of}
+use Rattle.kernel_rules.specs.Charge.{cost_of}
+use Rattle.kernel_rules.specs.Budget.{charged_of, replenished_of}
+use Rattle.kernel_rules.specs.declared.charge.ChargeLaw.{ChargeLaw}
+use Rattle.kernel_rules.specs.declared.charge.ChargedRunqueue.{ChargedRunqueue}
 use Rattle.timer_tasks.specs.declared.activity.Activity.{Activity}
 use Rattle.timer_tasks.specs.declared.activity.Activity.TheVariants.{Contending, NonContending, Inactive, Away}
 use Rattle.timer_tasks.specs.declared.activity.Knowledge.{Knowledge}

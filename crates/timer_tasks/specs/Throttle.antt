@@ -1,8 +1,8 @@
 -- Why a task waits for its next period: update_curr_dl_se, dl_check_constrained_dl, yield_task_dl.
 use Rattle.std.specs.Prelude.{ℕ, pos, int_lt, Bool, true, not, ◌&&◌, ◌==◌, if◌then◌else◌}
 use Rattle.std.specs.Int.{int_min}
-use Rattle.kernel_entity.specs.Clock.{comes_before}
-use Rattle.kernel_entity.specs.declared.entity.Entity.{Entity}
+use Rattle.kernel_rules.specs.Clock.{comes_before}
+use Rattle.kernel_rules.specs.declared.entity.Entity.{Entity}
 use Rattle.timer_tasks.specs.declared.task.DeadlineTask.{DeadlineTask}
 use Rattle.timer_tasks.specs.declared.throttle.Throttling.{Throttling}
 use Rattle.timer_tasks.specs.declared.throttle.Throttling.TheVariants.{UsedUp, Waits, Yields, Untold}

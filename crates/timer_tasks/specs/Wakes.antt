@@ -1,11 +1,11 @@
 -- What a wake does: enqueue_task_dl with ENQUEUE_WAKEUP, dl_check_constrained_dl, update_dl_entity.
 use Rattle.std.specs.Prelude.{ℕ, ◌+◌, ◌-◌, ◌^◌, Bool, true, false, not, ◌&&◌, ◌||◌, ◌==◌, nat_lt, nat_le, min, if◌then◌else◌, Option, Some, None}
-use Rattle.kernel_entity.specs.Clock.{plus, less, comes_before}
-use Rattle.kernel_entity.specs.Budget.{renewed_of, waking_of, woken_of}
-use Rattle.kernel_entity.specs.declared.budget.Wake.{Wake}
-use Rattle.kernel_entity.specs.declared.budget.Wake.TheVariants.{Kept, Revised, Renewed}
-use Rattle.kernel_entity.specs.declared.charge.ChargeLaw.{ChargeLaw}
-use Rattle.kernel_entity.specs.declared.entity.Entity.{Entity}
+use Rattle.kernel_rules.specs.Clock.{plus, less, comes_before}
+use Rattle.kernel_rules.specs.Budget.{renewed_of, waking_of, woken_of}
+use Rattle.kernel_rules.specs.declared.budget.Wake.{Wake}
+use Rattle.kernel_rules.specs.declared.budget.Wake.TheVariants.{Kept, Revised, Renewed}
+use Rattle.kernel_rules.specs.declared.charge.ChargeLaw.{ChargeLaw}
+use Rattle.kernel_rules.specs.declared.entity.Entity.{Entity}
 use Rattle.timer_tasks.specs.declared.activity.Knowledge.{Knowledge}
 use Rattle.timer_tasks.specs.declared.activity.Knowledge.TheVariants.{Known, Unknown, Edge}
 use Rattle.timer_tasks.specs.declared.task.DeadlineTask.{DeadlineTask}

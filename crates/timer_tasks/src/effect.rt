@@ -6,7 +6,7 @@ ghost use Rattle.timer_tasks.specs.Effects.{server_effect_of, task_effect_of, ta
 use crate::activity::Activity;
 use crate::server::{ServerState, is_stopped};
 use crate::task::DeadlineTask;
-use kernel_entity::share;
+use kernel_rules::share;
 
 /// What a task or a fair server has in `this_bw` and `running_bw` of its runqueue.
 #[derive(Clone, Copy)]

@@ -5,7 +5,7 @@ ghost use Rattle.timer_tasks.specs.Notes.{admitted_of, changed_of, keeps_of, lef
 
 use crate::activity::{Activity, Knowledge, is_known};
 use crate::task::DeadlineTask;
-use kernel_entity::{Entity, is_before, renewed, reserved};
+use kernel_rules::{Entity, is_before, renewed, reserved};
 use trace_data::{Budget, Parameters, Policy};
 
 /// What a note comes to.

@@ -5,7 +5,7 @@ ghost use Rattle.timer_tasks.specs.Observations.{answer_by, block_answer_of, blo
 
 use crate::activity::{Knowledge, is_awake, is_unseen};
 use crate::task::{DeadlineTask, ends};
-use kernel_entity::zero_lag;
+use kernel_rules::zero_lag;
 use trace_data::{Stop, Sums};
 
 /// Which timer is observed.

@@ -6,7 +6,7 @@ ghost use Rattle.timer_tasks.specs.Tasks.{blocked_of, charged_at_of, ends_of, kn
 use crate::activity::{Activity, Knowledge, is_awake, is_unseen};
 use crate::throttle::{Throttling, has_budget, held, held_back};
 use crate::wake::{Waking, awakened, known_after};
-use kernel_entity::{ChargeLaw, ChargedRunqueue, Entity, charged, cost, fresh};
+use kernel_rules::{ChargeLaw, ChargedRunqueue, Entity, charged, cost, fresh};
 use trace_data::Stop;
 
 /// A timer that the kernel started.
@@ -130,7 +130,7 @@ pub fn refilled(task: DeadlineTask) -> DeadlineTask
 {
     DeadlineTask {
         entity: if refills(task) {
-            kernel_entity::replenished(task.entity, task.exceeded.unwrap_or(0))
+            kernel_rules::replenished(task.entity, task.exceeded.unwrap_or(0))
         } else {
             task.entity
         },
@@ -238,7 +238,7 @@ pub fn replenished(task: DeadlineTask, at: u64) -> DeadlineTask
 {
     DeadlineTask {
         entity: if task.entity.budget.is_throttled {
-            kernel_entity::replenished(task.entity, at)
+            kernel_rules::replenished(task.entity, at)
         } else {
             task.entity
         },

@@ -5,7 +5,7 @@ ghost use Rattle.timer_tasks.specs.Throttle.{has_budget_of, held_back_by, held_o
 
 use crate::activity::is_awake;
 use crate::task::DeadlineTask;
-use kernel_entity::{Entity, is_before};
+use kernel_rules::{Entity, is_before};
 use trace_data::Budget;
 
 /// Why a replenishment timer is started.

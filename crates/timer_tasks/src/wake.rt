@@ -6,7 +6,7 @@ ghost use Rattle.timer_tasks.specs.Wakes.{awakened_by, differs_between_of, diffe
 use crate::activity::{Knowledge, is_known, is_unseen};
 use crate::task::DeadlineTask;
 use crate::throttle::{is_constrained, waiting};
-use kernel_entity::{ChargeLaw, Entity, Wake, is_before, renewed, waking, woken};
+use kernel_rules::{ChargeLaw, Entity, Wake, is_before, renewed, waking, woken};
 
 /// What a wake does.
 #[derive(Clone, Copy)]

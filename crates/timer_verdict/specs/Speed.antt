@@ -5,8 +5,8 @@ use Rattle.std.specs.Option.{option_or}
 use Rattle.trace_data.specs.declared.note.Policy.{Policy}
 use Rattle.trace_data.specs.declared.note.Policy.TheVariants as policy
 use Rattle.trace_data.specs.declared.quantities.Parameters.{Parameters}
-use Rattle.kernel_entity.specs.Clock.{contains_bits}
-use Rattle.kernel_entity.specs.declared.flags.TheConstants.{RECLAIM}
+use Rattle.kernel_rules.specs.Clock.{contains_bits}
+use Rattle.kernel_rules.specs.declared.flags.TheConstants.{RECLAIM}
 use Rattle.timer_record.specs.declared.lines.KeptLines.{KeptLines}
 use Rattle.timer_record.specs.declared.lines.TaskLines.{TaskLines}
 use Rattle.timer_record.specs.declared.lines.TaskNote.{TaskNote}

@@ -2,7 +2,7 @@
 
 use crate::numbers::is_of;
 use crate::writing::{put, put_rate, put_signed};
-use kernel_entity::{Charge, RECLAIM, has};
+use kernel_rules::{Charge, RECLAIM, has};
 use std::alloc::{AllocError, Global};
 use text_bytes::put_number;
 use timer_play::Charged;

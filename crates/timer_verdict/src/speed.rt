@@ -9,7 +9,7 @@ ghost use Rattle.timer_verdict.specs.Verdicts.{IsJudged};
 use crate::judging::{Judged, differs, judged_of, watch_of};
 use crate::numbers::is_of;
 use crate::reserved::parameters_at;
-use kernel_entity::{RECLAIM, has};
+use kernel_rules::{RECLAIM, has};
 use std::alloc::{AllocError, Global};
 use timer_play::{RecordOutcome, RecordSetup, RecordStart, play};
 use timer_record::{KeptLines, TaskLines};

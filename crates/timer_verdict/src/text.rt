@@ -14,7 +14,7 @@ use crate::reserved::{parameters_at, parameters_of};
 use crate::table::name_of;
 use crate::tested::put_tested;
 use crate::writing::{put, put_count, put_cpus, put_millis, put_seconds};
-use kernel_entity::{RECLAIM, has, ratio};
+use kernel_rules::{RECLAIM, has, ratio};
 use std::alloc::{AllocError, Global};
 use text_bytes::put_number;
 use timer_record::KeptLines;

@@ -4,7 +4,7 @@ use Rattle.text_bytes.specs.Source.{Opener, Reader}
 use Rattle.trace_file.specs.Reading.{IsSoOf}
 use Rattle.trace_file.proofs.SoLemmas.{so_by}
 use Rattle.trace_options.specs.declared.options.CheckOptions.{CheckOptions}
-use Rattle.trace_faults.specs.declared.fault.Fault.{Fault}
+use Rattle.trace_options.specs.declared.fault.Fault.{Fault}
 use Rattle.check_record.specs.Explains.{IsAgreedBy}
 use Rattle.check_record.specs.Reading.{HasShown}
 use Rattle.check_record.specs.Seen.{IsEnded, NothingDiffers, shown_in}

@@ -1,8 +1,8 @@
 -- Why nothing of a record was compared.
 use Rattle.std.specs.Prelude.{ℕ, ◌==◌, Bool, ◌&&◌, if◌then◌else◌, Option, Some, None}
 use Rattle.timer_verdict.specs.declared.omitted.LeftOut.{LeftOut}
-use Rattle.trace_faults.specs.declared.fault.Uncompared.{Uncompared}
-use Rattle.trace_faults.specs.declared.fault.Uncompared.TheVariants.{NoTask, NoBlock, UnknownSpeed, UnknownSum, Left, NoValue}
+use Rattle.trace_options.specs.declared.fault.Uncompared.{Uncompared}
+use Rattle.trace_options.specs.declared.fault.Uncompared.TheVariants.{NoTask, NoBlock, UnknownSpeed, UnknownSum, Left, NoValue}
 
 abbrev pub is_nothing : LeftOut → Bool
 is_nothing l = (l.ends == 0) && (l.unknown == 0) && (l.edges == 0) && (l.gaps == 0)

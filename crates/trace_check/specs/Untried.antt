@@ -1,11 +1,11 @@
 -- A kernel is judged by a check that a kernel of its release was held to.
 use Rattle.std.specs.Prelude.{◌≡◌, ℕ, List, Bool, not, if◌then◌else◌, Option, Some, None}
 use Rattle.trace_data.specs.declared.note.Kernel.{Kernel}
-use Rattle.kernel_versions.specs.Releases.{is_judged_by_probes, is_judged_by_timers, tried_by_probes, tried_by_timers}
+use Rattle.kernel_rules.specs.Releases.{is_judged_by_probes, is_judged_by_timers, tried_by_probes, tried_by_timers}
 use Rattle.trace_check.specs.declared.untried.Check.{Check}
 use Rattle.trace_check.specs.declared.untried.Check.TheVariants.{Probes, Timers}
-use Rattle.trace_faults.specs.declared.fault.Fault.{Fault}
-use Rattle.trace_faults.specs.declared.fault.Fault.TheVariants.{UntriedKernel}
+use Rattle.trace_options.specs.declared.fault.Fault.{Fault}
+use Rattle.trace_options.specs.declared.fault.Fault.TheVariants.{UntriedKernel}
 
 abbrev pub is_judged : Check → Option Kernel → Bool
 is_judged Probes kernel = is_judged_by_probes kernel

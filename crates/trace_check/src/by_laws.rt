@@ -8,12 +8,11 @@ use crate::showing::nothing_shown;
 use check_record::{Gathering, Names};
 use check_report::{CheckReport, add_laws, add_tasks};
 use law_findings::{Breach, JudgedLaws, LAWS, LawTallies, Whose};
-use law_verdict::{TaskName, put_law_row, put_laws};
+use law_verdict::{TaskName, put_figures, put_law_row, put_laws};
 use probe_verdict::TABLE_HEAD;
 use std::alloc::{AllocError, Global};
-use task_figures::put_figures;
 use timer_verdict::table_head;
-use trace_faults::{Fault, Uncompared};
+use trace_options::{Fault, Uncompared};
 
 /// A verdict with what the laws say below what the rules say.
 pub(crate) fn with_laws<'o>(

@@ -21,8 +21,7 @@ use probe_verdict::{
     put_unfollowed,
 };
 use std::alloc::{AllocError, Global};
-use trace_faults::{Fault, Uncompared};
-use trace_options::CheckOptions;
+use trace_options::{CheckOptions, Fault, Uncompared};
 
 /// The verdict by lines of probes, unless timers are to be compared; none where the trace has none.
 pub(crate) fn verdict_by_probes<'o>(

@@ -18,7 +18,7 @@ use crate::untried::{Check, of_release};
 use crate::why::put_timer_explanation;
 use check_record::Gathering;
 use check_report::{CheckReport, TimerAnswers, add_timers};
-use probe_marks::MarkCount;
+use probe_verdict::MarkCount;
 use std::alloc::{AllocError, Global};
 use timer_play::{KernelSettings, RecordSetup, RecordStart, play, setup_of};
 use timer_record::KeptLines;
@@ -27,8 +27,7 @@ use timer_verdict::{
     Judged, LeftOut, TimerHeading, judge, judge_at_unknown_speed, judged_of, left_out, put_table,
     put_verdict as put_timers,
 };
-use trace_faults::{Fault, Uncompared};
-use trace_options::CheckOptions;
+use trace_options::{CheckOptions, Fault, Uncompared};
 
 /// However far a moment lies from the kernel's.
 const NOT_JUDGED: u64 = u64::MAX;

@@ -5,7 +5,7 @@ ghost use Rattle.trace_file.specs.Reading.{IsSoOf};
 ghost use Rattle.check_record.specs.Explains.{IsAgreedBy};
 ghost use Rattle.check_record.specs.Seen.{NothingDiffers};
 ghost use Rattle.trace_check.specs.Timed.{IsTimed, IsTimedBy, shows_states};
-ghost use Rattle.trace_faults.specs.declared.fault.TheConstants.{STATUS_DIFFERS, STATUS_FILE, STATUS_LAW, STATUS_SYSTEM, STATUS_USAGE};
+ghost use Rattle.trace_options.specs.declared.fault.TheConstants.{STATUS_DIFFERS, STATUS_FILE, STATUS_LAW, STATUS_SYSTEM, STATUS_USAGE};
 
 use crate::by_laws::{laws_alone, with_laws};
 use crate::by_probes::{put_probe_explanation, verdict_by_probes};
@@ -22,9 +22,8 @@ use std::alloc::Global;
 use std::io;
 use std::io::Write;
 use trace_data::Flaw;
-use trace_faults::{Fault, STATUS_DIFFERS, STATUS_LAW, STATUS_USAGE};
+use trace_options::{CheckOptions, Fault, STATUS_DIFFERS, STATUS_LAW, STATUS_USAGE, Window};
 use trace_file::Files;
-use trace_options::{CheckOptions, Window};
 
 /// What is wanted of a check.
 #[derive(Clone, Copy)]

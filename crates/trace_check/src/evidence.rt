@@ -1,7 +1,7 @@
 //! The lines of a trace that bear on the first deviation: the trace is read a second time for them.
 
 use check_record::Played;
-use kernel_entity::ChargeLaw;
+use kernel_rules::ChargeLaw;
 use probe_findings::{Deviation, Quantity, Subject, Whose};
 use probe_run::{Actor, FirstNotes, Run};
 use probe_tasks::law_shown;

@@ -2,7 +2,7 @@
 
 use crate::check::CheckRequest;
 use std::io;
-use trace_faults::Fault;
+use trace_options::Fault;
 
 /// A file that is wanted, and its bytes; no path where it is not.
 type Wish<'a> = (Option<&'a str>, &'a [u8]);

@@ -5,7 +5,7 @@ ghost use Rattle.std.specs.Prelude.{◌≡◌, IfOk};
 use crate::check::Verdict;
 use check_record::EarlierLine;
 use std::alloc::{AllocError, Global};
-use trace_faults::Fault;
+use trace_options::Fault;
 
 /// A verdict that tells of the first line that is before the one before it.
 pub(crate) fn with_order<'o>(

@@ -7,8 +7,7 @@ use check_record::Gathering;
 use check_report::{ReportSettings, add_evidence, add_settings};
 use probe_verdict::{Evidence, put_evidence};
 use std::alloc::{AllocError, Global};
-use trace_faults::Fault;
-use trace_options::{Arithmetic, CheckOptions};
+use trace_options::{Arithmetic, CheckOptions, Fault};
 
 /// Adds what speaks for the first deviation to a verdict.
 pub(crate) fn put_evidence_of<'o>(

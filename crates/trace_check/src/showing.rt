@@ -1,16 +1,14 @@
 //! The states of a record, as a document of JSON and as a picture.
 
 use crate::check::CheckRequest;
-use state_history::{RecordScene, Span, TaskName, states_of};
-use state_json::put_document;
+use state_history::{RecordScene, Span, TaskName, put_document, states_of};
 use state_picture::picture_of;
 use std::alloc::{AllocError, Global};
 use timer_play::{RecordSetup, RecordStart};
 use timer_record::KeptLines;
 use timer_tasks::Observation;
 use timer_verdict::Judged;
-use trace_faults::Fault;
-use trace_options::Window;
+use trace_options::{Fault, Window};
 
 /// The documents that are wanted.
 #[derive(Drop)]

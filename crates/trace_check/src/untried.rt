@@ -4,10 +4,10 @@ ghost use Rattle.std.specs.Prelude.{◌≡◌, IfErr, IfOk};
 ghost use Rattle.trace_check.specs.Untried.{TellsTried, is_judged, tried_by, untried_by};
 
 use crate::check::Verdict;
-use kernel_versions::{is_judged_by_probes, is_judged_by_timers, tried_by_probes, tried_by_timers};
+use kernel_rules::{is_judged_by_probes, is_judged_by_timers, tried_by_probes, tried_by_timers};
 use std::alloc::{AllocError, Global};
 use trace_data::Kernel;
-use trace_faults::Fault;
+use trace_options::Fault;
 
 /// What a record is compared by.
 #[derive(Clone, Copy)]

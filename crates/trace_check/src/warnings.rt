@@ -4,7 +4,7 @@ ghost use Rattle.std.specs.Prelude.{◌≡◌, IfOk};
 
 use crate::check::Verdict;
 use std::alloc::AllocError;
-use trace_faults::Fault;
+use trace_options::Fault;
 
 /// A verdict with a line for each warning of the kernel's log.
 pub(crate) fn with_warnings<'o>(

@@ -1,2 +1,4 @@
 mod CutLemmas
 mod TaskLemmas
+mod MessageLemmas
+pub mod StatusLemmas

@@ -15,7 +15,7 @@ use Rattle.grub_table.specs.declared.view.Note.{Note}
 use Rattle.grub_table.specs.declared.view.Share.{Share}
 use Rattle.grub_table.specs.declared.view.Stored.{Stored}
 use Rattle.grub_table.specs.declared.view.Terms.{Terms}
-use Rattle.grub_words.specs.declared.task.TaskWord.{TaskWord}
+use Rattle.grub_table.specs.declared.task.TaskWord.{TaskWord}
 use Rattle.grub_table.specs.Histories.{record_in}
 use Rattle.grub_table.specs.inside.Tellings.{Adds, CallsIf, DecidesIf, IsOthers, Sees, Turns}
 use Rattle.grub_table.specs.inside.Counted.{id_of, step_at, terms_of}

@@ -1,7 +1,7 @@
 -- What is counted between the steps of a call.
 use Rattle.std.specs.Prelude.{Bool, true, false, ◌≡◌, ◌==◌, ◌&&◌, ◌⊎◌, ℕ, List, [], ◌∷◌, ◌++◌, Option, Some, None, if◌then◌else◌}
-use Rattle.grub_bw.specs.Bandwidth.{Reservation}
-use Rattle.grub_bw.specs.declared.server.Server.{Server}
+use Rattle.grub_book.specs.Bandwidth.{Reservation}
+use Rattle.grub_book.specs.declared.server.Server.{Server}
 use Rattle.grub_book.specs.declared.place.Record.{Record}
 use Rattle.grub_book.specs.declared.reply.Reply.{Reply}
 use Rattle.grub_table.specs.declared.view.Access.{Access}

@@ -1,8 +1,8 @@
 -- The words of a table at the start.
 use Rattle.std.specs.Prelude.{◌≡◌, ℕ, ◌<◌, List, length, slice_index}
-use Rattle.grub_bw.specs.Server.{fresh_of}
+use Rattle.grub_book.specs.Server.{fresh_of}
 use Rattle.grub_book.specs.Machine.{Machine, task_at}
-use Rattle.grub_words.specs.Words.{server_word, params_word}
+use Rattle.grub_table.specs.Words.{server_word, params_word}
 use Rattle.grub_table.specs.Layout.{queue_word_at, task_word_at}
 use Rattle.grub_table.specs.inside.Layout.{word_count, server_word_at, params_word_at}
 

@@ -2,7 +2,7 @@
 use Rattle.std.specs.Prelude.{ℕ, ◌+◌, ◌*◌, length}
 use Rattle.grub_book.specs.Machine.{Machine}
 use Rattle.grub_book.specs.declared.place.Record.{Record}
-use Rattle.grub_words.specs.Words.{server_word, params_word}
+use Rattle.grub_table.specs.Words.{server_word, params_word}
 use Rattle.grub_table.specs.declared.view.Stored.{Stored}
 use Rattle.grub_table.specs.Layout.{spacing, task_word_at}
 

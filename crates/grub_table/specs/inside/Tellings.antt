@@ -2,8 +2,8 @@
 use Rattle.std.specs.Prelude.{◌≡◌, ◌≢◌, ◌⊎◌, ℕ, ◌≤◌, Bool, true, false, List, [], ◌∷◌, Option, Some, None}
 use mathlib.Core.Option.{Option as MOption, some, none}
 use Rattle.atomic_table.specs.Table.{Step}
-use Rattle.grub_bw.specs.Bandwidth.{Reservation}
-use Rattle.grub_bw.specs.declared.server.Server.{Server}
+use Rattle.grub_book.specs.Bandwidth.{Reservation}
+use Rattle.grub_book.specs.declared.server.Server.{Server}
 use Rattle.grub_book.specs.Machine.{queue_at}
 use Rattle.grub_book.specs.History.{pass_of}
 use Rattle.grub_book.specs.Sound.{IsKept}

@@ -7,7 +7,7 @@ use Rattle.grub_book.specs.declared.op.Op.{Op}
 use Rattle.grub_book.specs.declared.op.Op.TheVariants.{Charge}
 use Rattle.grub_book.specs.declared.place.Record.{Record}
 use Rattle.grub_book.specs.declared.reply.Reply.{Reply}
-use Rattle.grub_words.specs.Words.{server_word, params_word}
+use Rattle.grub_table.specs.Words.{server_word, params_word}
 use Rattle.grub_table.specs.declared.view.Hold.TheVariants.{Undecided}
 use Rattle.grub_table.specs.declared.view.Share.{Share}
 use Rattle.grub_table.specs.declared.view.Stored.{Stored}

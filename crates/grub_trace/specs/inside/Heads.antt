@@ -1,6 +1,6 @@
 -- The heads of files, and what stands below them.
 use Rattle.std.specs.Prelude.{◌≡◌, ℕ, false, List, [], ◌∷◌, ◌++◌, length, Option, Some, None, Result, Ok, Err, ◌+◌, ◌≤◌}
-use Rattle.grub_bw.specs.Bandwidth.{Capacity}
+use Rattle.grub_book.specs.Bandwidth.{Capacity}
 use Rattle.grub_trace.specs.declared.version.Version.{Version}
 use Rattle.grub_trace.specs.declared.fault.Kind.{Kind}
 use Rattle.grub_trace.specs.declared.fault.TraceFault.{TraceFault}

@@ -6,9 +6,9 @@ use Rattle.std.specs.List.{list_all}
 use Rattle.std.specs.Char.{is_ascii_digit}
 use Rattle.std.specs.HashMap.{get_by_text}
 use Rattle.grub_book.specs.declared.op.TheConstants.{RUN_MAX}
-use Rattle.grub_bw.specs.declared.server.TheConstants.{MOMENT_MAX}
+use Rattle.grub_book.specs.declared.server.TheConstants.{MOMENT_MAX}
 use Rattle.grub_book.specs.declared.setup.TheConstants.{QUEUES_MAX, TASKS_MAX}
-use Rattle.grub_bw.specs.Bandwidth.{Capacity, reservation_fits}
+use Rattle.grub_book.specs.Bandwidth.{Capacity, reservation_fits}
 use Rattle.grub_trace.specs.declared.version.Version.{Version}
 use Rattle.grub_trace.specs.declared.fault.Kind.{Kind}
 use Rattle.grub_trace.specs.declared.fault.Kind.TheVariants.{BadLine, BadNumber, OutOfRange, DuplicateTask, CutShort, MissingQueue, BadHeader, UnknownTask}

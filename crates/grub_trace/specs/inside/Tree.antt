@@ -1,7 +1,7 @@
 -- The lines of a tree without the byte that ends each, and what its tasks reserve.
 use Rattle.std.specs.Prelude.{ℕ, List, map}
 use Rattle.std.specs.List.{join_with_byte}
-use Rattle.grub_bw.specs.Bandwidth.{Reservation}
+use Rattle.grub_book.specs.Bandwidth.{Reservation}
 use Rattle.grub_trace.specs.Tree.{Declaration, Happening, declaration_words, happening_words}
 
 abbrev pub declaration_line : Declaration → List ℕ

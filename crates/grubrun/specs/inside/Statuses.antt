@@ -7,7 +7,7 @@ use Rattle.text_bytes.specs.declared.files.Source.{Source}
 use Rattle.text_bytes.specs.Source.{Opener, Reader}
 use Rattle.grub_run.specs.Faults.{HasFileFault, Whole}
 use Rattle.grub_run.specs.declared.program_fault.TheConstants.{STATUS_FILE, STATUS_SYSTEM, STATUS_USAGE}
-use Rattle.grubrun_command.specs.declared.texts.TheConstants.{HELP, VERSION}
+use Rattle.grubrun.specs.declared.texts.TheConstants.{HELP, VERSION}
 use Rattle.grub_run.specs.Written.{Begins, Writes}
 use Rattle.grubrun.specs.Statuses.{HasNoSpan, IsWanted}
 use Rattle.grubrun.specs.Views.{IsMistake}

@@ -1,7 +1,7 @@
 -- Numbers that a step may be made of, whether the memory is a book or not.
 use Rattle.std.specs.Prelude.{◌≤◌}
-use Rattle.grub_bw.specs.Bandwidth.{Capacity, IsReservation, IsCapacity}
-use Rattle.grub_bw.specs.Server.{Fits}
+use Rattle.grub_book.specs.Bandwidth.{Capacity, IsReservation, IsCapacity}
+use Rattle.grub_book.specs.Server.{Fits}
 use Rattle.grub_book.specs.declared.rules.TheConstants.{COUNT_MAX}
 use Rattle.grub_book.specs.declared.event.Reading.{Reading}
 use Rattle.grub_book.specs.declared.place.Record.{Record}

@@ -1,7 +1,7 @@
 use Rattle.std.proofs.Common.{◌≡◌, ◌++◌, ◌∙◌, append_assoc, string_bytes}
 use Rattle.std.specs.Prelude.{codes, decimal}
 use Rattle.std.proofs.lemmas.Result.{IfOk-weaker}
-use Rattle.trace_faults.specs.Messages.{event_path}
+use Rattle.trace_options.specs.Messages.{event_path}
 use Rattle.convert.proofs.serving.path_of.Goals as goal
 
 pub returns : goal.returns

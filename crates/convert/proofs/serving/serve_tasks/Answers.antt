@@ -1,4 +1,4 @@
-use Rattle.trace_faults.proofs.StatusLemmas.{of_done}
+use Rattle.trace_options.proofs.StatusLemmas.{of_done}
 use Rattle.convert.proofs.serving.serve_tasks.Goals as goal
 
 pub returns-clause-done : goal.returns-clause-done

@@ -1,6 +1,6 @@
 use Rattle.std.proofs.Common.{◌≡◌, ℕ, ◌<◌, ◌+◌, ◌++◌, ◌∷◌, [], List, length, get_or, map, take, arith, ap, sym, ◌∙◌}
 use Rattle.std.proofs.lemmas.List.{map_more}
-use Rattle.grub_bw.specs.Bandwidth.{Reservation}
+use Rattle.grub_book.specs.Bandwidth.{Reservation}
 use Rattle.grub_book.specs.Machine.{task_at}
 use Rattle.grub_book.specs.Sums.{Records, opening_record}
 use Rattle.grub_book.specs.declared.place.Record.{Record}

@@ -1,5 +1,5 @@
 use Rattle.std.proofs.Common.{ℕ, ◌<◌, get_or}
-use Rattle.grub_bw.specs.Bandwidth.{IsCapacity}
+use Rattle.grub_book.specs.Bandwidth.{IsCapacity}
 use Rattle.grub_book.proofs.setup.look_at_queues.Given as goal
 
 abbrev pub invariant-loop-queue : goal.invariant-loop-queue

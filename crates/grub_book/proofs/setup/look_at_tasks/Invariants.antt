@@ -1,5 +1,5 @@
 use Rattle.std.proofs.Common.{ℕ, ◌<◌, get_or}
-use Rattle.grub_bw.specs.Bandwidth.{IsReservation}
+use Rattle.grub_book.specs.Bandwidth.{IsReservation}
 use Rattle.grub_book.proofs.setup.look_at_tasks.Given as goal
 
 abbrev pub invariant-loop-params : goal.invariant-loop-params

@@ -1,4 +1,4 @@
-use Rattle.grub_steps.proofs.Viewing.{viewable}
+use Rattle.grub_timeline.proofs.Viewing.{viewable}
 use Rattle.grub_picture.proofs.picture.picture_text.Goals as goal
 
 pub text_of-requires : goal.text_of-requires

@@ -1,5 +1,5 @@
 use Rattle.std.proofs.Common.{◌≡◌, Bool, true, false, Option, Some, None, refl, sym, ◌∙◌, ap}
-use Rattle.grub_words.specs.declared.task.TaskWord.{TaskWord}
+use Rattle.grub_table.specs.declared.task.TaskWord.{TaskWord}
 use Rattle.grub_table.proofs.row.unclaimed.Goals as goal
 
 claimed_in : Option TaskWord → Bool

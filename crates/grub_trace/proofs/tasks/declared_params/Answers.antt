@@ -1,7 +1,7 @@
 use Rattle.std.proofs.Common.{◌≡◌, ℕ, ◌<◌, Bool, true, false, cond, not, ◌&&◌, List, length, Option, Some, None, Ok, refl, ap, ◌∙◌, sym, arith, subst}
 use Rattle.std.specs.Prelude.{is_none, is_some, min}
 use Rattle.std.proofs.lemmas.Bool.{and_left, and_right, lt-ltb}
-use Rattle.grub_bw.specs.Bandwidth.{Reservation, reservation_fits}
+use Rattle.grub_book.specs.Bandwidth.{Reservation, reservation_fits}
 use Rattle.grub_trace.specs.declared.fault.Kind.{Kind}
 use Rattle.grub_trace.specs.declared.fault.Kind.TheVariants.{BadNumber, DuplicateTask}
 use Rattle.grub_trace.specs.Forms.{is_number, reservation_value}

@@ -7,9 +7,9 @@ use Rattle.text_bytes.specs.Writing.{HandsOn, HandsPart}
 use Rattle.text_bytes.proofs.Handing.{hands_both, hands_none}
 use Rattle.grub_timeline.specs.TimeLines.{AreWithin}
 use Rattle.grub_timeline.specs.declared.told.ToldEntry.{ToldEntry}
-use Rattle.grub_steps.specs.Replay.{steps_from, steps_of}
+use Rattle.grub_timeline.specs.Replay.{steps_from, steps_of}
 use Rattle.grub_views.specs.Rows.{step_row}
-use Rattle.grub_steps.specs.Past.{book_past}
+use Rattle.grub_timeline.specs.Past.{book_past}
 use Rattle.grub_views.proofs.Chunking.{chunk_viewable, past_more, rows_more, rows_then, told_out, within_more}
 use Rattle.grub_views.proofs.Handing.{hands_same, part_piece}
 use Rattle.grub_views.proofs.rows.write_rows.Goals as goal

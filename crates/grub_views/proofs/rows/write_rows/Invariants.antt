@@ -6,10 +6,10 @@ use Rattle.grub_timeline.specs.TimeLines.{AreWithin}
 use Rattle.grub_timeline.specs.declared.told.ToldEntry.{ToldEntry}
 use Rattle.text_bytes.specs.declared.pieces.TheConstants.{LINE_MAX}
 use Rattle.text_bytes.specs.Writing.{HandsOn}
-use Rattle.grub_steps.specs.Replay.{steps_of}
+use Rattle.grub_timeline.specs.Replay.{steps_of}
 use Rattle.grub_views.specs.Rows.{step_row}
-use Rattle.grub_steps.specs.Fitting.{AreToldIn}
-use Rattle.grub_steps.specs.Past.{book_past}
+use Rattle.grub_timeline.specs.Fitting.{AreToldIn}
+use Rattle.grub_timeline.specs.Past.{book_past}
 use Rattle.grub_views.proofs.rows.write_rows.Given as goal
 
 -- the rows of the entries before the latest, and the book after them

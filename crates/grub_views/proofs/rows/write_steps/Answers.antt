@@ -2,7 +2,7 @@ use Rattle.std.proofs.Common.{◌∙◌, Err}
 use Rattle.std.specs.List.{flat_map}
 use Rattle.std.proofs.lemmas.Result.{on_err_weaker, on_ok_weaker}
 use Rattle.text_bytes.proofs.Handing.{hands_both, part_after, part_longer}
-use Rattle.grub_steps.specs.Replay.{steps_of}
+use Rattle.grub_timeline.specs.Replay.{steps_of}
 use Rattle.grub_views.specs.Rows.{header, rows_of, step_row, step_rows}
 use Rattle.grub_views.proofs.Viewed.{view_part, view_whole}
 use Rattle.grub_views.proofs.rows.write_steps.Goals as goal

@@ -1,5 +1,5 @@
 use Rattle.std.proofs.Common.{◌≡◌, ◌*◌, ◌<◌, ◌∙◌, ap, arith}
-use Rattle.grub_bw.specs.Server.{rate_of}
+use Rattle.grub_book.specs.Server.{rate_of}
 use Rattle.library_book.specs.Numbers.{reading_of_numbers}
 use Rattle.library_book.proofs.Exhausting.{least_is}
 use Rattle.library_book.proofs.exhaustion.least_run.Goals as goal

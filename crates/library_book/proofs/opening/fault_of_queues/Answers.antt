@@ -1,5 +1,5 @@
 use Rattle.std.proofs.Common.{◌∙◌, sym}
-use Rattle.grub_bw.specs.Bandwidth.{IsCapacity}
+use Rattle.grub_book.specs.Bandwidth.{IsCapacity}
 use Rattle.library_book.specs.Memory.{constants_of}
 use Rattle.library_book.specs.declared.memory.NdRunqueue.{NdRunqueue}
 use Rattle.library_book.specs.Opening.{queue_fault}

@@ -1,5 +1,5 @@
 use Rattle.std.proofs.Common.{ℕ, ◌<◌, get_or}
-use Rattle.grub_bw.specs.Bandwidth.{IsReservation}
+use Rattle.grub_book.specs.Bandwidth.{IsReservation}
 use Rattle.library_book.specs.Memory.{params_of}
 use Rattle.library_book.specs.Opening.{task_fault}
 use Rattle.library_book.specs.declared.memory.NdTask.{NdTask}

@@ -2,7 +2,7 @@ use Rattle.std.proofs.Common.{◌≡◌, ℕ, Bool, Option, ap, ◌∙◌}
 use Rattle.probe_run.specs.Runs.{state_of}
 use Rattle.probe_run.specs.State.{State, actor_at, keep_at, with_task, task_number}
 use Rattle.probe_run.specs.declared.actor.Actor.{Actor}
-use Rattle.kernel_functions.specs.declared.admissions.Admitting.{Admitting}
+use Rattle.kernel_rules.specs.declared.admissions.Admitting.{Admitting}
 use Rattle.probe_run.specs.Handlers.{handler_runs, admitting_while}
 use Rattle.probe_run.specs.Sums.{change, share_in}
 use Rattle.probe_tasks.specs.Tasks.{room_of}

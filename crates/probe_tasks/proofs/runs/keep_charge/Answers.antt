@@ -1,7 +1,7 @@
 use Rattle.std.proofs.Common.{◌≡◌, Bool, ap, ◌∙◌}
-use Rattle.kernel_entity.specs.declared.entity.Entity.{Entity}
-use Rattle.kernel_functions.specs.declared.runs.Spending.{Spending}
-use Rattle.kernel_functions.specs.Spend.{spending_of}
+use Rattle.kernel_rules.specs.declared.entity.Entity.{Entity}
+use Rattle.kernel_rules.specs.declared.runs.Spending.{Spending}
+use Rattle.kernel_rules.specs.Spend.{spending_of}
 use Rattle.probe_run.specs.Runs.{state_of}
 use Rattle.probe_run.specs.State.{State, keep_at}
 use Rattle.probe_run.specs.Sums.{start_timer_in}

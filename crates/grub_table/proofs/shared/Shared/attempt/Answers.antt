@@ -3,7 +3,7 @@ use Rattle.grub_book.specs.declared.place.Record.{Record}
 use Rattle.grub_book.specs.declared.event.Event.{Event}
 use Rattle.grub_book.specs.declared.event.Event.TheVariants.{Call}
 use Rattle.grub_book.specs.declared.reply.Reply.{Reply}
-use Rattle.grub_words.proofs.Bounds.{ServerFits-kept}
+use Rattle.grub_table.proofs.Bounds.{ServerFits-kept}
 use Rattle.grub_table.specs.declared.claim.Claim.{Claim}
 use Rattle.grub_table.specs.declared.shared.Shared.{Shared}
 use Rattle.grub_table.specs.declared.seated.Seated.{Seated}

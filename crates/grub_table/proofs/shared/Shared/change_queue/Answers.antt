@@ -1,6 +1,6 @@
 use Rattle.std.proofs.Common.{◌==◌, sym, ap, ◌∙◌}
-use Rattle.grub_words.specs.Words.{queue_word, QueueFits}
-use Rattle.grub_words.proofs.Halves.{same_queue}
+use Rattle.grub_table.specs.Words.{queue_word, QueueFits}
+use Rattle.grub_table.proofs.Halves.{same_queue}
 use Rattle.grub_table.specs.inside.Tellings.{ChangedQueue}
 use Rattle.grub_table.proofs.Between.{queue_told, value_told}
 use Rattle.grub_table.proofs.ClaimTurns.{change_queue_allowed}

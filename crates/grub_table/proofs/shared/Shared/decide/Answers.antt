@@ -1,5 +1,5 @@
 use Rattle.std.proofs.Common.{ap, sym, subst, ◌∙◌, arith, Some, None, ◌≡◌, ℕ, ◌<◌, Bool, true, false, List, [], ◌∷◌, ◌++◌, append_assoc, inl, inr, length, set}
-use Rattle.grub_bw.specs.Bandwidth.{Capacity}
+use Rattle.grub_book.specs.Bandwidth.{Capacity}
 use Rattle.grub_book.specs.Step.{settled, step, changes_sum, is_under_claim, runqueue_of}
 use Rattle.grub_book.specs.Totals.{shifted_of}
 use Rattle.grub_book.specs.declared.place.Record.{Record}
@@ -21,8 +21,8 @@ use Rattle.grub_book.proofs.Claims.{settled_under}
 use Rattle.grub_book.proofs.Refusals.{settling}
 use Rattle.grub_book.proofs.Soundness.{kept_settled, sound_step}
 use Rattle.grub_book.proofs.Totals.{shifted_set}
-use Rattle.grub_words.specs.Words.{QueueFits}
-use Rattle.grub_words.proofs.Bounds.{QueueFits-sound}
+use Rattle.grub_table.specs.Words.{QueueFits}
+use Rattle.grub_table.proofs.Bounds.{QueueFits-sound}
 use Rattle.grub_table.specs.declared.shared.Shared.{Shared}
 use Rattle.grub_table.specs.declared.seated.Seated.{Seated}
 use Rattle.grub_table.specs.declared.view.Access.{Access}

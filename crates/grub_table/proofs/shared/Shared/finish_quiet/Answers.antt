@@ -1,6 +1,6 @@
 use Rattle.std.proofs.Common.{◌≡◌, false, sym, ap, ◌∙◌, subst}
 use Rattle.std.proofs.lemmas.Bool.{both_ways}
-use Rattle.grub_bw.specs.Bandwidth.{Capacity}
+use Rattle.grub_book.specs.Bandwidth.{Capacity}
 use Rattle.grub_book.specs.Sound.{IsKept}
 use Rattle.grub_book.specs.Step.{settled, is_under_claim}
 use Rattle.grub_book.specs.declared.event.Reading.{Reading}
@@ -9,8 +9,8 @@ use Rattle.grub_book.specs.declared.reply.Reply.{Reply}
 use Rattle.grub_book.proofs.Claims.{settled_under}
 use Rattle.grub_book.proofs.Refusals.{settled_alike}
 use Rattle.grub_book.proofs.Soundness.{kept_settled}
-use Rattle.grub_words.specs.Words.{server_word, params_word}
-use Rattle.grub_words.proofs.Bounds.{ServerFits-kept}
+use Rattle.grub_table.specs.Words.{server_word, params_word}
+use Rattle.grub_table.proofs.Bounds.{ServerFits-kept}
 use Rattle.grub_table.specs.declared.claim.Claim.{Claim}
 use Rattle.grub_table.specs.declared.shared.Shared.{Shared}
 use Rattle.grub_table.specs.declared.seated.Seated.{Seated}

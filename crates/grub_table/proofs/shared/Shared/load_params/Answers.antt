@@ -1,6 +1,6 @@
-use Rattle.grub_bw.specs.Bandwidth.{IsReservation}
-use Rattle.grub_words.specs.Words.{params_word}
-use Rattle.grub_words.proofs.Halves.{same_params}
+use Rattle.grub_book.specs.Bandwidth.{IsReservation}
+use Rattle.grub_table.specs.Words.{params_word}
+use Rattle.grub_table.proofs.Halves.{same_params}
 use Rattle.grub_table.specs.inside.Tellings.{SawParams}
 use Rattle.grub_table.proofs.Between.{value_told}
 use Rattle.grub_table.proofs.ClaimTurns.{load_params_allowed}

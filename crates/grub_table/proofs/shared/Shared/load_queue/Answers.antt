@@ -1,5 +1,5 @@
-use Rattle.grub_words.specs.Words.{queue_word, QueueFits}
-use Rattle.grub_words.proofs.Halves.{same_queue}
+use Rattle.grub_table.specs.Words.{queue_word, QueueFits}
+use Rattle.grub_table.proofs.Halves.{same_queue}
 use Rattle.grub_table.specs.inside.Tellings.{SawQueue}
 use Rattle.grub_table.proofs.Between.{queue_told, value_told}
 use Rattle.grub_table.proofs.ClaimTurns.{load_queue_allowed}

@@ -1,12 +1,12 @@
 use Rattle.std.proofs.Common.{◌≡◌, ℕ, Option, Some, None, ◌∙◌}
-use Rattle.grub_bw.specs.Bandwidth.{Reservation}
-use Rattle.grub_bw.specs.declared.server.Server.{Server}
+use Rattle.grub_book.specs.Bandwidth.{Reservation}
+use Rattle.grub_book.specs.declared.server.Server.{Server}
 use Rattle.grub_book.specs.Step.{early}
 use Rattle.grub_book.specs.declared.op.Op.{Op}
 use Rattle.grub_book.specs.declared.place.Record.{Record}
 use Rattle.grub_book.specs.declared.reply.Reply.{Reply}
 use Rattle.grub_book.specs.declared.place.Place.{Place}
-use Rattle.grub_words.specs.declared.task.TaskWord.{TaskWord}
+use Rattle.grub_table.specs.declared.task.TaskWord.{TaskWord}
 use Rattle.grub_table.specs.declared.shared.Shared.{Shared}
 use Rattle.grub_table.specs.declared.seated.Seated.{Seated}
 use Rattle.grub_table.specs.declared.view.Share.{Share}

@@ -1,5 +1,5 @@
-use Rattle.grub_words.specs.Words.{server_word, ServerFits}
-use Rattle.grub_words.proofs.Halves.{same_server}
+use Rattle.grub_table.specs.Words.{server_word, ServerFits}
+use Rattle.grub_table.proofs.Halves.{same_server}
 use Rattle.grub_table.specs.inside.Tellings.{SawServer}
 use Rattle.grub_table.proofs.Between.{value_told}
 use Rattle.grub_table.proofs.ClaimTurns.{load_server_allowed}

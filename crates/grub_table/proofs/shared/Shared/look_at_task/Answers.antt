@@ -4,10 +4,10 @@ use Rattle.grub_book.specs.Sound.{IsKept}
 use Rattle.grub_book.specs.Step.{refused}
 use Rattle.grub_book.specs.declared.place.Record.{Record}
 use Rattle.grub_book.specs.declared.place.Place.{Place}
-use Rattle.grub_words.specs.Words.{task_word, PlaceFits}
-use Rattle.grub_words.specs.declared.task.TaskWord.{TaskWord}
-use Rattle.grub_words.proofs.Bounds.{PlaceFits-kept}
-use Rattle.grub_words.proofs.Tasks.{claims_apart}
+use Rattle.grub_table.specs.Words.{task_word, PlaceFits}
+use Rattle.grub_table.specs.declared.task.TaskWord.{TaskWord}
+use Rattle.grub_table.proofs.Bounds.{PlaceFits-kept}
+use Rattle.grub_table.proofs.Tasks.{claims_apart}
 use Rattle.grub_table.specs.declared.shared.Shared.{Shared}
 use Rattle.grub_table.specs.declared.seated.Seated.{Seated}
 use Rattle.grub_table.specs.declared.view.Note.{Note}

@@ -1,5 +1,5 @@
 use Rattle.std.proofs.Common.{refl, sym, ap, ◌∙◌, ◌≡◌, ◌≢◌, ℕ, ◌<◌, false, Option, Some, None, Ok, [], ◌∷◌, length, subst, inl, inr, ⊎_elim}
-use Rattle.grub_words.specs.Words.{task_word, PlaceFits}
+use Rattle.grub_table.specs.Words.{task_word, PlaceFits}
 use Rattle.grub_table.proofs.Brief.{starts_at_load, starts_lost, starts_held, starts_early}
 use Rattle.grub_book.specs.Op.{IsOp}
 use Rattle.grub_book.specs.Sound.{IsKept}
@@ -10,7 +10,7 @@ use Rattle.grub_book.specs.declared.place.Record.{Record}
 use Rattle.grub_book.specs.declared.reply.Reply.{Reply}
 use Rattle.grub_book.proofs.Claims.{refused_outside}
 use Rattle.grub_book.proofs.Histories.{starts_whole}
-use Rattle.grub_words.specs.declared.task.TaskWord.{TaskWord}
+use Rattle.grub_table.specs.declared.task.TaskWord.{TaskWord}
 use Rattle.grub_table.specs.declared.claim.Claim.{Claim}
 use Rattle.grub_table.specs.declared.pass.Pass.{Pass}
 use Rattle.grub_table.specs.declared.shared.Shared.{Shared}

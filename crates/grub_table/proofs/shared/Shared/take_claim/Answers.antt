@@ -1,6 +1,6 @@
 use Rattle.std.proofs.Common.{◌==◌, ◌+◌, [], ◌∷◌, ◌++◌, true, ap, sym, subst, ◌∙◌, arith}
-use Rattle.grub_words.proofs.Tasks.{task_word-claimed}
-use Rattle.grub_words.proofs.Bounds.{task_word-lt}
+use Rattle.grub_table.proofs.Tasks.{task_word-claimed}
+use Rattle.grub_table.proofs.Bounds.{task_word-lt}
 use Rattle.grub_table.specs.declared.view.Access.TheVariants.{Exchange}
 use Rattle.grub_table.specs.inside.Between.{Tells}
 use Rattle.grub_table.specs.Calls.{made_on}

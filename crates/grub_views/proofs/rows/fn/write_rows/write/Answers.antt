@@ -1,6 +1,6 @@
 use Rattle.std.proofs.Common.{◌∙◌}
-use Rattle.grub_steps.specs.Fitting.{IsToldIn}
-use Rattle.grub_steps.proofs.Stepping.{steps_hold}
+use Rattle.grub_timeline.specs.Fitting.{IsToldIn}
+use Rattle.grub_timeline.proofs.Stepping.{steps_hold}
 use Rattle.grub_views.proofs.rows.fn.write_rows.write.Goals as goal
 
 pub write_lines-requires-clause-fits : goal.write_lines-requires-clause-fits

@@ -1,5 +1,0 @@
-//! Tests of convert_facts.
-#![tactic(auto)]
-
-#[cfg(test)]
-mod tests;

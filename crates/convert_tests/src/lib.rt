@@ -1,5 +1,0 @@
-//! Tests of convert.
-#![tactic(auto)]
-
-#[cfg(test)]
-mod tests;

@@ -1,5 +1,0 @@
-use Rattle.grub_steps.proofs.Viewing.{viewable}
-use Rattle.grub_steps.proofs.book_steps.played_steps.Goals as goal
-
-pub steps_in-requires : goal.steps_in-requires
-steps_in-requires c = viewable c.args.plan.now c.args.line.now.told.items c.args.line.now.closing.items c.requires.line c.requires.within

@@ -1,4 +1,0 @@
-pub mod Fitting
-pub mod Messages
-pub mod Past
-pub mod Replay

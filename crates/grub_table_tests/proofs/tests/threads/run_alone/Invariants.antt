@@ -1,5 +1,0 @@
-use Rattle.grub_table.specs.Calls.{IsPassOf}
-use Rattle.grub_table_tests.proofs.tests.threads.run_alone.Given as goal
-
-abbrev pub invariant-loop : goal.invariant-loop
-invariant-loop g l = IsPassOf l.shared l.pass

@@ -1,5 +1,0 @@
-//! Tests of grub_table.
-#![tactic(auto)]
-
-#[cfg(test)]
-mod tests;

@@ -1,5 +1,0 @@
-//! Tests of grub_timeline.
-#![tactic(auto)]
-
-#[cfg(test)]
-mod tests;

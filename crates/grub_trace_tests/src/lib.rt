@@ -1,5 +1,0 @@
-//! Tests of grub_trace.
-#![tactic(auto)]
-
-#[cfg(test)]
-mod tests;

@@ -1,4 +1,0 @@
-pub mod Found
-pub mod Halves
-pub mod Tasks
-pub mod Bounds

@@ -1,6 +1,0 @@
-use Rattle.std.proofs.Common.{◌∙◌, add_comm, mod-eq_of_lt}
-use Rattle.std.proofs.lemmas.Nat.{or_shifted}
-use Rattle.grub_words.proofs.bits.join.Goals as goal
-
-pub returns : goal.returns
-returns c = rw (mod-eq_of_lt c.requires.high) (or_shifted c.args.high c.args.width c.args.low c.requires.low ∙ add_comm _ _)

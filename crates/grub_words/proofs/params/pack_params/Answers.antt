@@ -1,7 +1,0 @@
-use Rattle.std.proofs.Common.{rules}
-use Rattle.grub_words.specs.Words.{params_word}
-use Rattle.grub_words.proofs.params.pack_params.Goals as goal
-
-pub returns : goal.returns
-unfolding params_word
-returns c = search rules

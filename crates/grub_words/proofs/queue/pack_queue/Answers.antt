@@ -1,7 +1,0 @@
-use Rattle.std.proofs.Common.{rules}
-use Rattle.grub_words.specs.Words.{queue_word}
-use Rattle.grub_words.proofs.queue.pack_queue.Goals as goal
-
-pub returns : goal.returns
-unfolding queue_word
-returns c = search rules

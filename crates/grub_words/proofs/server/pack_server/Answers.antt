@@ -1,7 +1,0 @@
-use Rattle.std.proofs.Common.{rules}
-use Rattle.grub_words.specs.Words.{server_word}
-use Rattle.grub_words.proofs.server.pack_server.Goals as goal
-
-pub returns : goal.returns
-unfolding server_word
-returns c = search rules

@@ -1,5 +1,0 @@
-//! Tests of grub_workers.
-#![tactic(auto)]
-
-#[cfg(test)]
-mod tests;

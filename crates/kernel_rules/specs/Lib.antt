@@ -1,0 +1,14 @@
+pub mod Clock
+pub mod Reservation
+pub mod Sums
+pub mod Charge
+pub mod Budget
+pub mod Activity
+pub mod Enqueue
+pub mod Spend
+pub mod Dequeue
+pub mod Leave
+pub mod Admit
+pub mod Timer
+pub mod Later
+pub mod Releases

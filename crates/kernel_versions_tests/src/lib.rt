@@ -1,5 +1,0 @@
-//! Tests of kernel_versions.
-#![tactic(auto)]
-
-#[cfg(test)]
-mod tests;

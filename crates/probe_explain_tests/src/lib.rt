@@ -1,5 +1,0 @@
-//! Tests of probe_run and probe_explain.
-#![tactic(auto)]
-
-#[cfg(test)]
-mod tests;

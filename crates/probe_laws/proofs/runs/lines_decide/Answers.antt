@@ -1,5 +1,0 @@
-use Rattle.probe_laws.proofs.runs.lines_decide.Goals as goal
-use Rattle.probe_laws.proofs.NothingPendingLemmas.{lines_decide}
-
-pub returns : goal.returns
-returns c = lines_decide

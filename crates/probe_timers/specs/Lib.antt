@@ -1,3 +1,0 @@
-pub mod Timers
-pub mod Servers
-pub mod Marks

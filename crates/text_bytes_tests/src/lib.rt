@@ -1,5 +1,0 @@
-//! Tests of text_bytes.
-#![tactic(auto)]
-
-#[cfg(test)]
-mod tests;

@@ -1,2 +1,0 @@
-mod MessageLemmas
-pub mod StatusLemmas
