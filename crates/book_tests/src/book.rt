@@ -2,7 +2,10 @@
 
 ghost use Rattle.std.specs.Prelude.{◌≡◌};
 
-use grub_book::{Book, BookFault, CheckFault, Event, Op, Params, Place, Queue, Reading, Reply, Setup, SetupFault, State, check, refusal};
+use grub_book::{
+    Book, BookFault, CheckFault, Event, Op, Params, Place, Queue, Reading, Reply, Setup,
+    SetupFault, State, check, refusal,
+};
 use std::alloc::Global;
 use std::fmt;
 use std::process::Abort;

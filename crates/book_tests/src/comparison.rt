@@ -3,8 +3,8 @@
 ghost use Rattle.std.specs.Prelude.{◌≡◌, ◌<◌, length};
 ghost use Rattle.grub_book.specs.Op.{IsOp};
 
-use crate::plain::PlainBook;
 use crate::book::{book_of, setup_of};
+use crate::plain::PlainBook;
 use grub_book::{Book, Op, Reading, Reply, Setup};
 use std::process::Abort;
 

@@ -6,7 +6,9 @@ ghost use Rattle.grub_book.specs.Op.{IsOp};
 ghost use Rattle.grub_book.specs.Sums.{opening_book, reading_of, record_at};
 ghost use Rattle.grub_book.specs.Step.{step};
 
-use grub_book::{Op, Params, Reading, Record, Reply, Setup, opening_records, refusal, runqueue, settle};
+use grub_book::{
+    Op, Params, Reading, Record, Reply, Setup, opening_records, refusal, runqueue, settle,
+};
 use std::alloc::{AllocError, Global};
 use std::marker::Model;
 

@@ -14,17 +14,19 @@ use crate::laws::RecordLaws;
 use crate::names::Names;
 use crate::probes::{Probes, SeenRecord, ToldSettings};
 use crate::whole::RecordRequest;
-use check_settings::{OpeningSign, RecordHead, RecordTimers, is_frequency, is_older, opening_by_change, opening_of};
+use check_settings::{
+    OpeningSign, RecordHead, RecordTimers, is_frequency, is_older, opening_by_change, opening_of,
+};
 use law_findings::ReadLine;
+use law_verdict::shows_class;
 use probe_explain::ProbeLine;
 use probe_findings::ProbedLine;
 use probe_lines::event_of;
 use probe_verdict::DroppedLines;
 use std::alloc::{AllocError, Global};
-use law_verdict::shows_class;
 use trace_data::{Flaw, RecordLine, Said, TraceNote};
-use trace_options::{CPUS, CheckOptions, Fault};
 use trace_lines::{Lines, ToldLine};
+use trace_options::{CPUS, CheckOptions, Fault};
 
 /// A moment that is greater than each number of nanoseconds is read as this one.
 const TOO_LATE: u64 = u64::MAX;

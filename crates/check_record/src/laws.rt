@@ -4,8 +4,8 @@ use kernel_rules::BW_UNIT;
 use law_findings::{AskedLaws, JudgedLaws, LawFigures, ReadLine};
 use law_play::LawPlay;
 use law_timers::TimerLaws;
-use std::alloc::{AllocError, Global};
 use law_verdict::FigureLines;
+use std::alloc::{AllocError, Global};
 use trace_data::{Fixed, Kernel, Limit, Probe, Said};
 
 /// What became of the laws in a record, and what is told beside them.

@@ -14,8 +14,8 @@ use probe_verdict::DroppedLines;
 use std::alloc::AllocError;
 use timer_play::RunqueueSums;
 use trace_data::{Limit, Policy, TraceNote};
-use trace_options::Fault;
 use trace_lines::Lost as LostLines;
+use trace_options::Fault;
 
 impl Gathering<'_> {
     /// The CPUs of the root domain, as a note may list them.

@@ -9,9 +9,9 @@ ghost use Rattle.check_record.specs.Seen.{shown_in};
 use crate::gathering::Gathering;
 use std::alloc::{AllocError, Global};
 use std::io;
-use trace_options::Fault;
 use trace_file::{ReadFault, read_lines};
 use trace_lines::Halt;
+use trace_options::Fault;
 
 /// Why a trace was not read.
 fn fault_of<'o>(fault: ReadFault<Fault<'o>>) -> Fault<'o>

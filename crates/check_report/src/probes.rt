@@ -7,7 +7,10 @@ use probe_findings::{
     Broken, Comparison, Comparisons, Deviation, ExactRule, ExactValue, KindCounts, Law,
     ProbedFunction, RuleCounts, Subject, Whose, Why, kind_of,
 };
-use probe_verdict::{Evidence, KINDS, MarkCount, ProbeHeading, event_name, function_of, kind_name, put_arithmetic, quantity_name, rule_function, rule_name, total_of};
+use probe_verdict::{
+    Evidence, KINDS, MarkCount, ProbeHeading, event_name, function_of, kind_name, put_arithmetic,
+    quantity_name, rule_function, rule_name, total_of,
+};
 use serde_json::{Value, json, put};
 use std::alloc::{AllocError, Global};
 use trace_data::{Kernel, TimerFunction};

@@ -1,7 +1,8 @@
 //! From the facts of a trace to events at their moments.
 
-use crate::{event::TimedEvent, rules::events_of};
+use crate::event::TimedEvent;
 use crate::order::{OrderFault, place_all};
+use crate::rules::events_of;
 use convert_facts::{Fact, What};
 use std::alloc::Global;
 

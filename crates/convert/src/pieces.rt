@@ -1,12 +1,13 @@
 //! What a trace tells.
 
-use crate::{fault::fault_from, options::ConvertOptions};
+use crate::fault::fault_from;
+use crate::options::ConvertOptions;
 use convert_facts::{Census, FactLines, Facts, ShownTasks};
 use std::alloc::{AllocError, Global};
 use std::io;
 use text_bytes::Source;
-use trace_options::Fault;
 use trace_file::{ReadFault, read_lines};
+use trace_options::Fault;
 
 /// Why a trace was not read.
 fn fault_of<'a>(fault: ReadFault<AllocError>) -> Fault<'a> {

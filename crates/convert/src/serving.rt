@@ -7,8 +7,10 @@ ghost use Rattle.trace_options.specs.Faults.{status_of};
 ghost use Rattle.trace_options.specs.Messages.{event_path};
 ghost use Rattle.trace_options.specs.declared.fault.TheConstants.{STATUS_FILE, STATUS_SYSTEM};
 
-use crate::{census::tasks_text, fault::fault_from, options::ConvertOptions};
+use crate::census::tasks_text;
+use crate::fault::fault_from;
 use crate::files::{FilesFault, event_files};
+use crate::options::ConvertOptions;
 use crate::pieces::{read_facts, read_tasks};
 use convert_facts::LineFault;
 use std::alloc::{AllocError, Global};
@@ -16,8 +18,8 @@ use std::io;
 use std::io::Write;
 use text_bytes::Source;
 use trace_data::Flaw;
-use trace_options::{Fault, told_status};
 use trace_file::{Files, Target};
+use trace_options::{Fault, told_status};
 
 /// The path of the event file of a runqueue.
 fn path_of(alloc: Global, prefix: &str, runqueue: usize) -> Result<String, AllocError>

@@ -6,8 +6,8 @@ mod plans;
 mod texts;
 mod threads;
 
-use grub_trace::*;
 use crate::documentation;
+use grub_trace::*;
 use std::alloc::{AllocError, Global};
 
 /// Files of these bytes.

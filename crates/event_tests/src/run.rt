@@ -5,12 +5,13 @@ ghost use Rattle.std.specs.Prelude.{◌≤◌};
 mod growths;
 mod writers;
 
+use crate::documentation;
 use crate::expects::{expect_at, expect_case};
 use crate::files::{
     FAR_TIMER, FAR_TIMER_REPORT, FIRST, FIRST_REPORT, LEAVES, LEAVES_REPORT, NO_EVENTS,
     NO_EVENTS_REPORT, RETUNES, RETUNES_REPORT, files_of,
 };
-use crate::{documentation, writer::Expecting};
+use crate::writer::Expecting;
 use grub_run::{Attempts, GrubFault, run_texts, run_texts_by_threads};
 use grub_trace::{Kind, TraceFault};
 use std::alloc::{AllocError, Global};

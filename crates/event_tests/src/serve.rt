@@ -2,8 +2,9 @@
 
 mod lines;
 
-use crate::{expects::expect_case, writer::Expecting};
+use crate::expects::expect_case;
 use crate::files::{FIRST, FIRST_REPORT};
+use crate::writer::Expecting;
 use grub_run::{Attempts, STATUS_FILE, STATUS_SYSTEM, Streams, serve_files};
 use std::alloc::Global;
 use std::io::{ErrorKind, Read, Write};

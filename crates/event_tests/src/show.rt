@@ -1,7 +1,9 @@
 //! Views from the bytes of files: with refused growths, and with a writer that fails.
 
-use crate::{expects::expect_at, moving, writer::Expecting};
+use crate::expects::expect_at;
 use crate::files::{files_after_all, files_of};
+use crate::moving;
+use crate::writer::Expecting;
 use grub_run::{FileView, ShowFault, write_view};
 use grub_trace::TraceFault;
 use std::alloc::{AllocError, Global};

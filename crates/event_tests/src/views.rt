@@ -3,13 +3,13 @@
 ghost use Rattle.std.specs.Prelude.{◌≡◌, ◌≤◌, IfSome, vec_capacity};
 ghost use Rattle.grub_book.specs.Sums.{opening_book};
 
+use crate::{documentation, moving};
 use grub_book::Book;
 use grub_picture::*;
 use grub_plan::Plan;
-use grub_timeline::{*, Playing, play};
+use grub_timeline::{Playing, play, *};
 use grub_trace::read_files;
-use grub_views::{*};
-use crate::{documentation, moving};
+use grub_views::*;
 use std::alloc::Global;
 use std::process::Abort;
 use std::thread::Threads;

@@ -4,7 +4,8 @@ ghost use Rattle.std.specs.Prelude.{◌≡◌, ◌≤◌, ◌<◌, ◌+◌, ◌*
 ghost use Rattle.grub_book.specs.Bandwidth.{IsReservation};
 ghost use Rattle.grub_book.specs.Server.{Fits, fresh_of, woken_of, lag_of, charge_of, recharges_of, depleted_of, IsEnough};
 
-use crate::{params::Params, queue::Queue};
+use crate::params::Params;
+use crate::queue::Queue;
 
 /// The last moment, in the caller's unit.
 pub const MOMENT_MAX: u32 = 2147483647;

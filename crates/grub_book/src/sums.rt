@@ -4,7 +4,9 @@ ghost use Rattle.std.specs.Prelude.{◌≡◌, ◌≤◌, ◌^◌, if◌then◌e
 ghost use Rattle.grub_book.specs.Bandwidth.{bandwidth_of};
 ghost use Rattle.grub_book.specs.Totals.{Counts, shifted_of};
 
-use crate::{Params, event::Reading, place::Record};
+use crate::Params;
+use crate::event::Reading;
+use crate::place::Record;
 
 /// The reading of runqueue `r` after a task's record became another: the bandwidth that the old record added to
 /// running_bw and this_bw goes, and what the new one adds comes.

@@ -1,6 +1,7 @@
 //! What `start` and `finish` answer.
 
-use crate::{claim::Claim, pass::Pass};
+use crate::claim::Claim;
+use crate::pass::Pass;
 use grub_book::Reply;
 
 /// What a call saw that found its task busy: the task's word with its claim bit set, or a word that had changed from the one that the call had loaded.

@@ -4,8 +4,10 @@ ghost use Rattle.std.specs.List.{All};
 ghost use Rattle.grub_table.specs.Calls.{terms, IsPassOf, IsClosed, IsRefusal};
 
 use crate::fault::{CloseFault, CloseWhy};
-use crate::{pass::Pass, seated::Seated, shared::Shared};
+use crate::pass::Pass;
 use crate::row::{SPACING, reading_in};
+use crate::seated::Seated;
+use crate::shared::Shared;
 use grub_book::Reading;
 use std::alloc::Global;
 

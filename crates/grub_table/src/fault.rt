@@ -1,6 +1,7 @@
 //! Why a table is not opened, or not closed.
 
-use crate::{pass::Pass, shared::Shared};
+use crate::pass::Pass;
+use crate::shared::Shared;
 use std::error::Error;
 use std::fmt;
 

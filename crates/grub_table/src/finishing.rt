@@ -16,11 +16,19 @@ ghost use Rattle.grub_table.specs.inside.Tellings.{is_decided_at_load, outcome, 
 ghost use Rattle.grub_table.specs.inside.Brief.{changed_server, changed_store, TriesOnce};
 ghost use Rattle.grub_table.specs.inside.Tries.{half_stored, is_charge, KnowsNoMore, Tried};
 
-use crate::{answer::Finished, claim::Claim, pack_params, pack_queue, pack_server, pass::Pass, rule::Telling, seated::Seated, shared::Shared};
+use crate::answer::Finished;
+use crate::claim::Claim;
+use crate::pass::Pass;
 use crate::row::{
     free_word, params_word_at, queue_word_at, reading_in, server_word_at, task_word_at,
 };
-use grub_book::{Op, Params, Reading, Record, Reply, Server, changes_sum, runqueue, settle, shifted};
+use crate::rule::Telling;
+use crate::seated::Seated;
+use crate::shared::Shared;
+use crate::{pack_params, pack_queue, pack_server};
+use grub_book::{
+    Op, Params, Reading, Record, Reply, Server, changes_sum, runqueue, settle, shifted,
+};
 
 /// Whether the reply stands as soon as the runqueue's word is loaded.
 #[inline(always)]

@@ -6,9 +6,14 @@ ghost use Rattle.grub_table.specs.Calls.{terms, AreNew, IsOpened};
 ghost use Rattle.grub_table.specs.inside.FirstWords.{AreOpeningWords};
 ghost use Rattle.grub_table.specs.inside.Trails.{first_trail};
 
-use crate::{counted::CountedTable, fault::OpenFault, pack_params, pack_server, pass::Pass, seated::Seated, shared::Shared};
+use crate::counted::CountedTable;
+use crate::fault::OpenFault;
+use crate::pass::Pass;
 use crate::row::{SPACING, params_word_at, server_word_at};
+use crate::seated::Seated;
+use crate::shared::Shared;
 use crate::view::{Note, Terms, Trail};
+use crate::{pack_params, pack_server};
 use atomic_table::Seat;
 use grub_book::{Op, Params, Queue, Server, Setup};
 use std::alloc::{AllocError, Global};

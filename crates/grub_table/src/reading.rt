@@ -13,9 +13,12 @@ ghost use Rattle.grub_table.specs.Accesses.{meeting_loads};
 ghost use Rattle.grub_table.specs.Histories.{EndsWith};
 ghost use Rattle.grub_table.specs.Knowing.{Learns};
 
-use crate::{claim::Claim, pass::Pass, seated::Seated, shared::Shared};
+use crate::claim::Claim;
+use crate::pass::Pass;
 use crate::row::{queue_word_at, reading_in};
 use crate::rule::{Compare, Telling};
+use crate::seated::Seated;
+use crate::shared::Shared;
 use grub_book::Reading;
 
 /// The load of a runqueue's reading for `read`: a look in the history.

@@ -10,8 +10,8 @@ ghost use Rattle.grub_table.specs.Words.{queue_word, server_word, params_word, t
 ghost use Rattle.grub_table.specs.Layout.{queue_word_at, task_word_at, shown};
 ghost use Rattle.grub_table.specs.inside.Layout.{server_word_at, params_word_at};
 
-use grub_book::{Params, Reading, Record, Server, Setup};
 use crate::{TaskWord, pack_task, unpack_params, unpack_queue, unpack_server, unpack_task};
+use grub_book::{Params, Reading, Record, Server, Setup};
 
 /// How many words a runqueue or a task has to itself: 128 bytes.
 pub(crate) const SPACING: usize = 16;

@@ -4,7 +4,8 @@ ghost use Rattle.std.specs.Prelude.{◌≡◌, ◌<◌};
 ghost use Rattle.grub_table.specs.inside.Layout.{word_count};
 ghost use Rattle.grub_book.specs.Machine.{IsMachine};
 
-use crate::{counted::CountedTable, view::Terms};
+use crate::counted::CountedTable;
+use crate::view::Terms;
 
 /// The runqueues and tasks, lent to threads by reference.
 #[derive(Drop)]

@@ -15,8 +15,14 @@ ghost use Rattle.grub_table.specs.inside.Tellings.{note_of, Of, LoadedTask, Took
 ghost use Rattle.grub_table.specs.Accesses.{StartsBriefly};
 
 use crate::answer::{Sighting, Started};
-use crate::{TaskWord, claim::Claim, pack_task, pass::Pass, rule::Telling, seated::Seated, shared::Shared, view::Note};
+use crate::claim::Claim;
+use crate::pass::Pass;
 use crate::row::{params_in, params_word_at, server_in, server_word_at, task_word_at, unclaimed};
+use crate::rule::Telling;
+use crate::seated::Seated;
+use crate::shared::Shared;
+use crate::view::Note;
+use crate::{TaskWord, pack_task};
 use grub_book::{Op, Params, Record, Server, early, refusal};
 use std::marker::{Brand, PhantomData};
 

@@ -7,7 +7,9 @@ ghost use Rattle.grub_table.specs.inside.Between.{made_step, IsAllowed, Tells};
 ghost use Rattle.grub_table.specs.Calls.{made_on, IsSeatOf};
 
 use crate::rule::{Telling, Turn};
-use crate::{seated::Seated, shared::Shared, view::Note};
+use crate::seated::Seated;
+use crate::shared::Shared;
+use crate::view::Note;
 
 impl Shared {
     /// One load by the pass whose seat this is.

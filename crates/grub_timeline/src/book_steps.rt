@@ -6,9 +6,9 @@ ghost use Rattle.grub_timeline.specs.Fitting.{AreToldIn, IsToldIn};
 ghost use Rattle.grub_timeline.specs.Past.{book_past};
 ghost use Rattle.grub_timeline.specs.Replay.{book_after, queue_or, step_of, steps_from};
 
+use crate::{TimeLine, ToldEntry};
 use grub_book::{Book, Place, Reading, Server, Setup};
 use grub_plan::{Ask, Plan};
-use crate::{TimeLine, ToldEntry};
 use std::alloc::{AllocError, Global};
 
 /// What an entry changed of its task.

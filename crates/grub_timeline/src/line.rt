@@ -6,7 +6,8 @@ ghost use Rattle.grub_plan.specs.Asked.{Follows, JoinsAfter};
 ghost use Rattle.grub_timeline.specs.TimeLines.{AsksPlaced, entries_of};
 ghost use Rattle.grub_timeline.specs.inside.Playing.{GoesOnOf, IsLineAsked, IsNotPast, IsPlaying, Plays};
 
-use crate::{due::ask_due, order::PlacedLine};
+use crate::due::ask_due;
+use crate::order::PlacedLine;
 use crate::player::{Player, call, look};
 use grub_book::{Op, Reply};
 use grub_plan::{Act, Answer, Line, call_of};

@@ -5,8 +5,9 @@ ghost use Rattle.grub_plan.specs.Limits.{PlanFits};
 ghost use Rattle.grub_timeline.specs.inside.Merge.{IsAhead, IsMidway, IsNext, NoHead};
 ghost use Rattle.grub_timeline.specs.Order.{left};
 
-use crate::{line::ask_line, player::Player};
+use crate::line::ask_line;
 use crate::order::{Lead, PlacedLine, first, leads, take};
+use crate::player::Player;
 use grub_plan::Plan;
 
 /// Asks for the lines that come next, while what one more asks is sure to have room. It tells whether there was a line.

@@ -4,7 +4,8 @@ ghost use Rattle.std.specs.Bool.{OnTrue};
 ghost use Rattle.std.specs.FinMap as map;
 ghost use Rattle.grub_timeline.specs.inside.Playing.{IsPlaying};
 
-use crate::{log::Log, player::Player};
+use crate::log::Log;
+use crate::player::Player;
 use grub_book::Book;
 use grub_plan::Plan;
 use grub_wheel::Wheel;

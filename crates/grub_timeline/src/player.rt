@@ -7,7 +7,9 @@ ghost use Rattle.grub_plan.specs.inside.Keeping.{IsLineOp};
 ghost use Rattle.grub_timeline.specs.inside.TimeLines.{told_of};
 ghost use Rattle.grub_timeline.specs.inside.Playing.{IsLookedAt, IsOfBlock, IsPlaying, IsToldBy, Plays};
 
-use crate::{armers::note, log::Log, told::ToldEntry};
+use crate::armers::note;
+use crate::log::Log;
+use crate::told::ToldEntry;
 use grub_book::{Book, Op};
 use grub_plan::{Answer, Ask, Entry, keep};
 use grub_wheel::Wheel;

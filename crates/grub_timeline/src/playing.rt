@@ -5,7 +5,12 @@ ghost use Rattle.grub_book.specs.History.{IsLegal};
 ghost use Rattle.grub_plan.specs.Plans.{script_at};
 ghost use Rattle.grub_timeline.specs.TimeLines.{AreAnswered, AreWithin, DoNotGoBack, IsOneRun, IsOnlyTimeLine, IsTimeLine, history_of};
 
-use crate::{closing::fill_readings, fault::PlayFault, lines::ask_lines, opening::player_of, player::Player, told::ToldEntry};
+use crate::closing::fill_readings;
+use crate::fault::PlayFault;
+use crate::lines::ask_lines;
+use crate::opening::player_of;
+use crate::player::Player;
+use crate::told::ToldEntry;
 use grub_book::Reading;
 use grub_plan::Plan;
 use std::alloc::{AllocError, Global};

@@ -3,7 +3,9 @@ ghost use Rattle.std.specs.Prelude.{◌≡◌, IfOk, length};
 ghost use Rattle.grub_plan.specs.Plans.{script_at};
 ghost use Rattle.grub_timeline.specs.TimeLines.{AreWithin, DoNotGoBack, IsOneRun, IsOnlyTimeLine, IsTimeLine};
 
-use crate::{fault::PlayFault, playing::Playing, told::TimeLine};
+use crate::fault::PlayFault;
+use crate::playing::Playing;
+use crate::told::TimeLine;
 use grub_plan::Plan;
 use std::alloc::Global;
 

@@ -6,7 +6,9 @@ ghost use Rattle.grub_plan.specs.Plans.{IsAskOf};
 ghost use Rattle.text_bytes.specs.Writing.{HandsOn, HandsPart};
 ghost use Rattle.grub_views.specs.Lines.{HandsOnTimeline, HandsPartOfTimeline, close_line, close_lines, told_line};
 
-use crate::{beside::play_beside, line_room::LineRoom, rest::play_out};
+use crate::beside::play_beside;
+use crate::line_room::LineRoom;
+use crate::rest::play_out;
 use grub_book::Reading;
 use grub_plan::{Plan, append_answer, append_ask, append_reading};
 use grub_timeline::{Playing, ToldEntry};

@@ -9,7 +9,11 @@ ghost use Rattle.grub_timeline.specs.Past.{book_past};
 ghost use Rattle.grub_timeline.specs.Replay.{steps_from, steps_of};
 ghost use Rattle.grub_views.specs.Rows.{HandsOnSteps, HandsPartOfSteps, header, step_row};
 
-use crate::{beside::play_beside, line_room::LineRoom, rest::play_out, row::append_step, step_maker::StepMaker};
+use crate::beside::play_beside;
+use crate::line_room::LineRoom;
+use crate::rest::play_out;
+use crate::row::append_step;
+use crate::step_maker::StepMaker;
 use grub_plan::Plan;
 use grub_timeline::{Playing, Step};
 use std::io;

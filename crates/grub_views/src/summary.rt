@@ -4,8 +4,9 @@ ghost use Rattle.std.specs.Prelude.{◌≡◌, ◌+◌, ◌<◌, ◌^◌, length
 ghost use Rattle.grub_timeline.specs.TimeLines.{AreWithin, IsTimeLine};
 ghost use Rattle.grub_timeline.specs.Fitting.{AreToldIn};
 
-use crate::{sums::sums_of, tally::Tally};
+use crate::sums::sums_of;
 use crate::table::{Cell, table_of};
+use crate::tally::Tally;
 use crate::usage::{Meter, Usage};
 use grub_book::{BW_UNIT, Params, Queue};
 use grub_plan::Plan;

@@ -4,7 +4,8 @@ ghost use Rattle.std.specs.Prelude.{◌≡◌, ◌+◌, ◌<◌, ◌≤◌, ◌^
 ghost use Rattle.grub_timeline.specs.Fitting.{AreToldIn};
 ghost use Rattle.grub_views.specs.inside.Within.{IsMeterWithin, IsWithin};
 
-use crate::{tally::Tally, usage::Meter};
+use crate::tally::Tally;
+use crate::usage::Meter;
 use grub_book::{Book, Setup};
 use grub_timeline::{Step, ToldEntry, step_after};
 use std::alloc::{AllocError, Global};

@@ -6,7 +6,8 @@ ghost use Rattle.clap.specs.Words.{one_of, rule_of, rows_of, found_of, matches_o
 ghost use Rattle.grubrun.specs.CommandLine.{MomentNamed, ReadsNumber, RoundsNamed, TriesNamed, tries_rule, rounds_rule, view_rule, moment_rule, files_rule, command_line, texts_of, view_named};
 ghost use Rattle.grubrun.specs.inside.Rounds.{IsCommand, IsOf, rounds_id, run_line, view_line};
 
-use crate::{texts::VERSION, view_word::ViewWord};
+use crate::texts::VERSION;
+use crate::view_word::ViewWord;
 use clap::{Arg, ArgAction, ArgMatches, Command, Error, value_parser};
 use std::alloc::{AllocError, Global};
 

@@ -8,18 +8,18 @@ use crate::refusal::Refusal;
 use clap::error::ErrorKind;
 use clap::{ArgMatches, Error};
 use convert::{ConvertOptions, options_of, serve_events, serve_tasks};
+use law_verdict::{FigureText, print_figures};
 use size_report::{SizeWords, serve_size, size_options_of};
 use std::alloc::{AllocError, Global};
 use std::io;
 use std::io::Write;
-use law_verdict::{FigureText, print_figures};
 use text_bytes::Source;
 use trace_check::{
     AskedLaws, CheckOption, CheckRequest, CheckWords, Window, WrongOption, laws_of,
     options_of as check_options, serve_check, window_of,
 };
-use trace_options::{Fault, STATUS_USAGE};
 use trace_file::Files;
+use trace_options::{Fault, STATUS_USAGE};
 
 /// How many percent more than the least runtime are proposed, where the words do not say it.
 const MARGIN: u32 = 10;

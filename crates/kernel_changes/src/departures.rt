@@ -9,7 +9,10 @@ ghost use Rattle.kernel_rules.specs.Admit.{admitting_of};
 ghost use Rattle.kernel_rules.specs.Later.{locked_of};
 
 use crate::change::RuleChange;
-use kernel_rules::{Admission, Admitting, Arrival, Block, Delayed, Dequeuing, Entity, Fired, Leaving, Locked, Spending, SumsChange, admit, dequeue, leave, lock, spend, unchanged, zero_lag, zero_lag_fired};
+use kernel_rules::{
+    Admission, Admitting, Arrival, Block, Delayed, Dequeuing, Entity, Fired, Leaving, Locked,
+    Spending, SumsChange, admit, dequeue, leave, lock, spend, unchanged, zero_lag, zero_lag_fired,
+};
 use trace_data::{Admitted, Parameters};
 
 pub(crate) fn with_period(entity: Entity, dl_period: u64) -> Entity {

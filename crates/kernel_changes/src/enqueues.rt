@@ -7,7 +7,9 @@ use crate::change::RuleChange;
 use crate::departures::{moves, with_period};
 use crate::refills::{changed_waking, changed_woken};
 use crate::replenishments::{replenished_once, with_budget, with_left};
-use kernel_rules::{ChargeLaw, Contention, Enqueuing, Entity, MIGRATED, REPLENISH, Refill, SumsChange, enqueue, has};
+use kernel_rules::{
+    ChargeLaw, Contention, Enqueuing, Entity, MIGRATED, REPLENISH, Refill, SumsChange, enqueue, has,
+};
 use trace_data::Enqueued;
 
 /// The entity that it leaves, with the budget that it had.

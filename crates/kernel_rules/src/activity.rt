@@ -3,8 +3,10 @@
 ghost use Rattle.std.specs.Prelude.{◌≡◌};
 ghost use Rattle.kernel_rules.specs.Activity.{zero_lag_of, blocking_of, blocked_of, blocking_change_of, contending_of, contended_of, contending_change_of, running_again_of, ends_of};
 
-use crate::{clock::quotient, entity::Entity, reservation::cleared};
+use crate::clock::quotient;
+use crate::entity::Entity;
 use crate::flags::{MIGRATED, has};
+use crate::reservation::cleared;
 use crate::sums::{SumsChange, unchanged};
 
 /// What a block comes to.

@@ -3,8 +3,10 @@
 ghost use Rattle.std.specs.Prelude.{◌≡◌};
 ghost use Rattle.kernel_rules.specs.Budget.{renewed_of, overflows_of, waking_of, woken_of, recharges_of, left_of, recharged_of, ready_of, replenished_of, replenished_blocked_of, timer_is_ahead, charged_of};
 
-use crate::{charge::ChargeLaw, entity::Entity, reservation::served_by};
+use crate::charge::ChargeLaw;
 use crate::clock::{is_before, ratio};
+use crate::entity::Entity;
+use crate::reservation::served_by;
 use trace_data::Budget;
 
 /// What a wake does to budget and deadline.

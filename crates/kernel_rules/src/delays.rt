@@ -3,7 +3,8 @@
 ghost use Rattle.std.specs.Prelude.{◌≡◌};
 ghost use Rattle.kernel_rules.specs.Later.{delayed_change_of, after_delayed_of, lock_change_of, after_lock_of, locked_of};
 
-use crate::{Entity, SumsChange, cleared, timers::is_gone};
+use crate::timers::is_gone;
+use crate::{Entity, SumsChange, cleared};
 
 /// Which function.
 #[derive(Clone, Copy, PartialEq, Eq)]

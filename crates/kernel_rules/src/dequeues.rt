@@ -3,7 +3,11 @@
 ghost use Rattle.std.specs.Prelude.{◌≡◌};
 ghost use Rattle.kernel_rules.specs.Dequeue.{departing_of, departing_change, dequeuing_of, sleeping_of, off_of, taken_of};
 
-use crate::{Block, Entity, MOVING, RESTORE, SumsChange, WAKEUP, blocked, blocking, blocking_change, enqueues::Arrival, has, unchanged};
+use crate::enqueues::Arrival;
+use crate::{
+    Block, Entity, MOVING, RESTORE, SumsChange, WAKEUP, blocked, blocking, blocking_change, has,
+    unchanged,
+};
 
 /// What a dequeue does.
 #[derive(Clone, Copy)]

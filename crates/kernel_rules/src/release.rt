@@ -3,8 +3,8 @@
 ghost use Rattle.std.specs.Prelude.{◌≡◌};
 ghost use Rattle.kernel_rules.specs.Releases.{charge_law, has_servers, is_at_or_before, is_judged_by_probes, is_judged_by_timers, last_from, release_of, runs_servers, tried_by_probes, tried_by_timers, wants_sums};
 
-use crate::table::{OLDEST, RELEASES, Release, Servers};
 use crate::ChargeLaw;
+use crate::table::{OLDEST, RELEASES, Release, Servers};
 use trace_data::Kernel;
 
 /// Whether a version is this one or a later one.

@@ -3,7 +3,8 @@
 ghost use Rattle.std.specs.Prelude.{◌≡◌};
 ghost use Rattle.kernel_rules.specs.Reservation.{cleared_of, reserved_of, serving_of};
 
-use crate::{clock::ratio, entity::Entity};
+use crate::clock::ratio;
+use crate::entity::Entity;
 use trace_data::{Budget, Donor, Parameters};
 
 /// The entity with this reservation (`__setparam_dl`).

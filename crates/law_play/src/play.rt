@@ -3,8 +3,8 @@
 use crate::cpu::{Blocker, Cpus, Last};
 use crate::task::{Tasks, Waiting};
 use crate::timer::Timers;
-use law_values::{Picks, ReadyTasks, Runs, Servers, Total, is_of_reservation};
 use law_findings::{AskedLaws, JudgedLaws, LawFigures, LineKind, ReadLine, spread_of};
+use law_values::{Picks, ReadyTasks, Runs, Servers, Total, is_of_reservation};
 use std::alloc::{AllocError, Global};
 use trace_data::{Armed, Fixed, Kernel, Mark, Probe, Said, Sums, TimerFunction};
 

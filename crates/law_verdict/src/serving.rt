@@ -1,6 +1,7 @@
 //! Figures of the trace of a path.
 
-use crate::{TaskName, lines::FigureLines};
+use crate::TaskName;
+use crate::lines::FigureLines;
 use crate::task_text::{put_figures, put_supply};
 use std::alloc::{AllocError, Global};
 use std::collections::HashMap;

@@ -1,6 +1,8 @@
 //! Figures in words.
 
-use crate::{TaskName, others::CpuLeft, put_count, put_span, put_task, task::TaskFigures};
+use crate::others::CpuLeft;
+use crate::task::TaskFigures;
+use crate::{TaskName, put_count, put_span, put_task};
 use law_findings::Spread;
 use std::alloc::{AllocError, Global};
 use text_bytes::put_number;

@@ -4,8 +4,9 @@ ghost use Rattle.std.specs.Prelude.{◌≡◌, ◌∷◌, ◌++◌, [], IfOk, On
 ghost use Rattle.probe_run.specs.Runs.{state_of};
 ghost use Rattle.probe_explain.specs.Taken.{IsExplainedWhere, IsExplainedSoFarWhere};
 
-use crate::{play::Play, taken::TakenLines};
+use crate::play::Play;
 use crate::search::{ProbeLine, Search};
+use crate::taken::TakenLines;
 use probe_run::{PlayRules, Run, RunStart};
 use std::alloc::{AllocError, Global};
 use std::marker::Model;

@@ -8,6 +8,10 @@ ghost use Rattle.probe_run.specs.Counting.{Goes, Holds};
 ghost use Rattle.probe_run.specs.Moves.{is_claim_by};
 ghost use Rattle.probe_lines.specs.Lines.{follows_by, waits_for, came_early, is_effect_by, is_timer_to_arm_by, is_armed, is_mark, is_passed_over, is_charge, calls_are_done, timers_are_armed, is_free_for, is_first_of, before_line, none_chosen, choice_fits, played_by, checked_line_of, line_of};
 
+use crate::{
+    armed, marked, picked, replenish_fired, server_started, server_stopped, stops_nothing,
+    zero_lag_fired,
+};
 use kernel_rules::{REPLENISH, has};
 use probe_findings::{ExactValue, ProbedFunction, ProbedLine, Quantity};
 use probe_run::{
@@ -15,10 +19,6 @@ use probe_run::{
     moves_offline,
 };
 use probe_tasks::{LineChoice, admitted, dequeued, enqueued, left_class, migrating, updated};
-use crate::{
-    armed, marked, picked, replenish_fired, server_started, server_stopped, stops_nothing,
-    zero_lag_fired,
-};
 use probe_values::check_choice;
 use std::alloc::AllocError;
 use trace_data::{IdleCharge, Mark, Probe};

@@ -12,7 +12,10 @@ ghost use Rattle.probe_tasks.specs.Enqueues.{all_of, offline_by, back_by, may_be
 
 use crate::expected::{can_be_late, is_back, refreshed, went};
 use kernel_changes::enqueue_by;
-use kernel_rules::{Arrival, Boost, Delayed, Enqueuing, Entity, Refill, SumsChange, WAKEUP, Wake, has, replenished_blocked};
+use kernel_rules::{
+    Arrival, Boost, Delayed, Enqueuing, Entity, Refill, SumsChange, WAKEUP, Wake, has,
+    replenished_blocked,
+};
 use probe_findings::{ExactRule, ProbedLine};
 use probe_run::{Actor, Effect, OpenDequeue, PendingEffect, PlayRules, Run};
 use probe_values::{

@@ -3,7 +3,8 @@
 ghost use Rattle.std.specs.Prelude.{◌≡◌};
 ghost use Rattle.probe_verdict.specs.Explained.{is_explained, is_guess_of};
 
-use crate::{changes::change_name, text::total_of};
+use crate::changes::change_name;
+use crate::text::total_of;
 use crate::writing::{put, put_count};
 use kernel_changes::RuleChange;
 use probe_findings::KindCounts;

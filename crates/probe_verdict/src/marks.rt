@@ -1,7 +1,7 @@
 //! The marks of a record, by their kinds.
 
-use probe_findings::{ProbedFunction, ProbedLine};
 use crate::event_name;
+use probe_findings::{ProbedFunction, ProbedLine};
 use std::alloc::{AllocError, Global};
 use trace_data::{Mark, Probe};
 

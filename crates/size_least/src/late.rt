@@ -5,7 +5,8 @@ ghost use Rattle.size_least.specs.inside.Queue.{latest_of};
 ghost use Rattle.size_least.specs.Jobs.{late_of, lates_after};
 ghost use Rattle.size_least.specs.inside.Counting.{IsUpTo};
 
-use crate::{job::Job, renewal::Renewals};
+use crate::job::Job;
+use crate::renewal::Renewals;
 use crate::step::{are_done_by, step};
 use std::alloc::{AllocError, Global};
 

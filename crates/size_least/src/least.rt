@@ -4,7 +4,8 @@ ghost use Rattle.std.specs.Prelude.{◌≡◌, ◌≤◌, ◌<◌, ◌↔◌, If
 ghost use Rattle.size_least.specs.Jobs.{late_of};
 ghost use Rattle.size_least.specs.Least.{IsLeast};
 
-use crate::{job::Job, late::is_above};
+use crate::job::Job;
+use crate::late::is_above;
 use std::alloc::{AllocError, Global};
 
 /// The least runtime in each period, in microseconds, with which at most `allowed` of the jobs may be late; none where

@@ -3,7 +3,8 @@
 ghost use Rattle.std.specs.Prelude.{◌≡◌, ◌≤◌, ◌<◌, ◌++◌, ◌∷◌, [], IfOk, IfSome, IsNone, List, length, replicate, ℕ};
 ghost use Rattle.size_least.specs.Jobs.{late_of, lates_after};
 
-use crate::{job::Job, renewal::Renewals};
+use crate::job::Job;
+use crate::renewal::Renewals;
 use crate::step::{are_done_by, step};
 use std::alloc::{AllocError, Global};
 

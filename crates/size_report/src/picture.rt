@@ -4,9 +4,9 @@ ghost use Rattle.std.specs.Prelude.{◌≤◌, ◌+◌};
 
 use crate::sections::JobSpan;
 use crate::sizing::Needed;
+use size_admission::{Need, Panel, PanelRuntimes, sizing_picture};
 use size_jobs::JobTask;
 use size_least::{Job, heights_of, lates_of, least_runtime};
-use size_admission::{Need, Panel, PanelRuntimes, sizing_picture};
 use std::alloc::{AllocError, Global};
 
 /// What is drawn of a task.

@@ -9,9 +9,9 @@ use size_jobs::{JobFault, JobLines, JobRecord};
 use std::alloc::Global;
 use std::io;
 use text_bytes::Source;
-use trace_options::Fault;
 use trace_file::{ReadFault, read_lines};
 use trace_lines::Halt;
+use trace_options::Fault;
 
 /// Why a trace was not read.
 fn fault_of<'a>(fault: ReadFault<JobFault>) -> Fault<'a> {

@@ -21,8 +21,8 @@ use size_jobs::JobRecord;
 use std::alloc::{AllocError, Global};
 use std::io;
 use std::io::Write;
-use trace_options::Fault;
 use trace_file::Files;
+use trace_options::Fault;
 
 fn machine_of(record: &JobRecord, options: &SizeOptions<'_>) -> RootDomain
     ensures { result ≡ domain_of (said_by options.now) record.now.processors }

@@ -4,8 +4,8 @@ use crate::event::{
     budget_event, deviation_event, extra_event, micros, running_event, runqueue_event, slice_event,
     task_event, tasks_event, this_event, timer_event,
 };
-use serde_json::Value;
 use crate::{RecordScene, Slice, SumsSlice, TaskName, is_within, marked_at};
+use serde_json::Value;
 use std::alloc::{AllocError, Global};
 
 /// What is known of a task that no list names.

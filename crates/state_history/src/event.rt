@@ -1,8 +1,8 @@
 //! The events of a document, each an object of JSON.
 
 use crate::member::{add, head, one, text, timed};
-use serde_json::{Map, Value};
 use crate::{BudgetSlice, Slice, SumsSlice, TaskState};
+use serde_json::{Map, Value};
 use std::alloc::{AllocError, Global};
 use timer_tasks::{Observation, ObservedAnswer, TimerKind};
 

@@ -1,6 +1,7 @@
 //! What is shown of a record.
 
-use crate::{history::History, span::Span};
+use crate::history::History;
+use crate::span::Span;
 use timer_tasks::Observation;
 
 /// A task's pid, and its comm.

@@ -22,8 +22,8 @@ use std::alloc::Global;
 use std::io;
 use std::io::Write;
 use trace_data::Flaw;
-use trace_options::{CheckOptions, Fault, STATUS_DIFFERS, STATUS_LAW, STATUS_USAGE, Window};
 use trace_file::Files;
+use trace_options::{CheckOptions, Fault, STATUS_DIFFERS, STATUS_LAW, STATUS_USAGE, Window};
 
 /// What is wanted of a check.
 #[derive(Clone, Copy)]

@@ -1,6 +1,9 @@
 //! Versions, each in its row.
 
-use kernel_rules::{ChargeLaw, RELEASES, Servers, UpdateFunction, charge_law, has_servers, is_judged_by_probes, is_judged_by_timers, release_of};
+use kernel_rules::{
+    ChargeLaw, RELEASES, Servers, UpdateFunction, charge_law, has_servers, is_judged_by_probes,
+    is_judged_by_timers, release_of,
+};
 use std::test::Fail;
 use trace_data::Kernel;
 

@@ -1,7 +1,8 @@
 //! What a run answers where a growth is refused.
 
+use crate::documentation;
 use crate::files::{FIRST, FIRST_REPORT, files_after_all};
-use crate::{documentation, writer::Expecting};
+use crate::writer::Expecting;
 use grub_plan::TextFault;
 use grub_run::{GrubFault, run_texts, run_texts_by_threads};
 use grub_trace::TraceFault;

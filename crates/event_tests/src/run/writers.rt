@@ -1,7 +1,8 @@
 //! Writers that fail, and writers that take all.
 
 use super::{ENOUGH, ends};
-use crate::{documentation, expects::expect_at};
+use crate::documentation;
+use crate::expects::expect_at;
 use crate::writer::{Expecting, Then};
 use grub_run::GrubFault;
 use std::alloc::Global;
