@@ -22,6 +22,12 @@ def sum_of(*folders, start=ROOT):
     return total.hexdigest()
 
 
+def statements(library):
+    """A sum of what crates above read of a library: its statements, neither its code nor the list of sums."""
+    read = [it for part in ("interface", "below", "lang") for it in files_below(f"{library}/{part}") if not it.endswith("/lang/antt/made.json")]
+    return sum_of(*read, start=library)
+
+
 class Crate:
     """A crate, its folder, what it uses, and all crates of the repository below it, each after those that it uses."""
 
