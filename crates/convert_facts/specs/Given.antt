@@ -160,7 +160,7 @@ trouble_of report tasks runqueues = trouble_told report (index_told report tasks
 -- something is wrong with the line of an event by the tasks that were given
 abbrev pub is_trouble : Trouble → Bool
 is_trouble NoTrouble = false
-is_trouble trouble = true
+is_trouble other = true
 
 abbrev pub admitted : Reservation → Option Reservation
 admitted reservation = if reservation_fits reservation then Some reservation else None

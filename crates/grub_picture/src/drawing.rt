@@ -27,7 +27,7 @@ pub(crate) fn put_queues(
     frame: Frame,
     layout: &[RunqueueLayout],
 ) -> Result<(), AllocError>
-    requires { All (λ q. All (λ l. l.task < length plan.now.setup.tasks) q.lanes) layout.now }
+    requires { All (λ q. All (λ l. l.task < length plan.now.setup.tasks) q.lanes.items) layout.now }
 {
     for queue in layout {
         put_queue(out, plan, frame, queue)?;
@@ -42,7 +42,7 @@ fn put_queue(
     frame: Frame,
     queue: &RunqueueLayout,
 ) -> Result<(), AllocError>
-    requires { All (λ l. l.task < length plan.now.setup.tasks) queue.now.lanes }
+    requires { All (λ l. l.task < length plan.now.setup.tasks) queue.now.lanes.items }
 {
     let r = queue.runqueue;
     let base = queue.y.saturating_add(BASE);

@@ -23,17 +23,11 @@ pub fn lanes_of(
     let mut lanes = Vec::new(alloc);
     for t in 0..tasks {
         let bars = bars_of(alloc, r, own_of(owns, t), frame)?;
-        push_lane(&mut lanes, are_seen(frame, &bars), t)?;
+        if are_seen(frame, &bars) {
+            lanes.push(t)?;
+        }
     }
     Ok(lanes)
-}
-
-/// Appends a task, if it has a lane.
-fn push_lane(lanes: &mut Vec<u32>, is_there: bool, t: u32) -> Result<(), AllocError> {
-    if is_there {
-        lanes.push(t)?;
-    }
-    Ok(())
 }
 
 /// The steps of task `t`, of those of each task.

@@ -92,7 +92,7 @@ pub fn layout_of(alloc: Global, scene: &Scene) -> Result<Vec<RunqueueLayout>, Al
     requires queues { scene.now.queues ≤ length scene.now.plan.now.setup.queues }
     requires owns { length scene.now.owns.now ≡ length scene.now.plan.now.setup.tasks }
     ensures within { IfOk result
-        (λ v. All (λ q. All (λ l. l.task < length scene.now.owns.now) q.lanes) v.items) }
+        (λ v. All (λ q. All (λ l. l.task < length scene.now.owns.now) q.lanes.items) v.items) }
 {
     // A reader tells that a setup has no more runqueues than there is room for.
     let _ = scene.plan.setup();
@@ -112,7 +112,7 @@ fn runqueue_of(alloc: Global, scene: &Scene, r: u32, y: u32) -> Result<RunqueueL
     requires room { y + 4194 < 2 ^ 32 }
     requires tasks { scene.now.tasks ≤ length scene.now.plan.now.setup.tasks }
     requires owns { scene.now.tasks ≤ length scene.now.owns.now }
-    ensures within { IfOk result (λ q. All (λ l. l.task < length scene.now.owns.now) q.lanes) }
+    ensures within { IfOk result (λ q. All (λ l. l.task < length scene.now.owns.now) q.lanes.items) }
     ensures most { IfOk result (λ q. q.bottom ≤ y + 4194) }
 {
     let frame = scene.frame;

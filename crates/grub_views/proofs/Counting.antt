@@ -1,6 +1,6 @@
 -- What is counted fits, with one step more.
 use Rattle.std.proofs.Common.{◌≡◌, ℕ, ◌+◌, ◌<◌, List, length, get_or, set, take, drop, ap, ◌∙◌, sym, subst, arith, IfSome, All}
-use Rattle.std.proofs.lemmas.List.{drop-set-lt, drop_more, get_or-drop, take_more_set}
+use Rattle.std.proofs.lemmas.List.{drop-set-lt, drop_more, take_more_set}
 use Rattle.std.proofs.lemmas.List.Elements.{All-get_or, All-push, All-set, All-weaker}
 use Rattle.grub_book.specs.Machine.{Machine}
 use Rattle.grub_book.specs.Sums.{Records}
@@ -9,7 +9,6 @@ use Rattle.grub_plan.specs.declared.entry.Ask.TheVariants.{Call, Read}
 use Rattle.grub_timeline.specs.declared.told.ToldEntry.{ToldEntry}
 use Rattle.grub_timeline.specs.Replay.{book_after, change_of, step_of}
 use Rattle.grub_timeline.specs.Fitting.{IsAskIn, IsToldIn}
-use Rattle.grub_timeline.specs.declared.book_steps.Change.{Change}
 use Rattle.grub_timeline.specs.declared.book_steps.Step.{Step}
 use Rattle.grub_views.specs.inside.Within.{IsWithin}
 use Rattle.grub_views.specs.declared.tally.Tally.{Tally}
@@ -51,8 +50,10 @@ left_more {X = X} xs ys i y d below long is =
     drop-set-lt (i + 1) ys i y (omega arith) ∙ ap (drop 1) (sym (drop_more ys i d under) ∙ is ∙ drop_more xs i d below)
 
 -- the next one, which is as it was
-pub next_is : {X : Type 0} (xs ys : List X) (i : ℕ) (d : X) → drop i ys ≡ drop i xs → get_or ys i d ≡ get_or xs i d
-next_is {X = X} xs ys i d is = sym (get_or-drop i ys 0 d) ∙ ap (λ (l : List X). get_or l 0 d) is ∙ get_or-drop i xs 0 d
+pub next_is : {X : Type 0} (xs ys : List X) (i : ℕ) (d : X) → i < length xs → length ys ≡ length xs → drop i ys ≡ drop i xs → get_or ys i d ≡ get_or xs i d
+next_is {X = X} xs ys i d below long is =
+    let under : i < length ys = subst (λ n. i < n) (sym long) below in
+    ap (λ (l : List X). get_or l 0 d) (sym (drop_more ys i d under) ∙ is ∙ drop_more xs i d below)
 
 -- those that are written fit, where each that is written next does
 pub over_within : {X : Type 0} (P Q : X → Type 0) (xs ys : List X) (i : ℕ) (d y : X) → i < length xs → length ys ≡ length xs → drop i ys ≡ drop i xs
@@ -60,4 +61,4 @@ pub over_within : {X : Type 0} (P Q : X → Type 0) (xs ys : List X) (i : ℕ) (
 over_within {X = X} P Q xs ys i d y below long is step so_far all =
     let under : i < length ys = subst (λ n. i < n) (sym long) below in
     subst (λ (l : List X). All Q l) (sym (take_more_set ys i y under))
-    (All-push Q (take i ys) y (so_far all) (step (subst P (sym (next_is xs ys i d is)) (All-get_or P xs i d below all))))
+    (All-push Q (take i ys) y (so_far all) (step (subst P (sym (next_is xs ys i d below long is)) (All-get_or P xs i d below all))))

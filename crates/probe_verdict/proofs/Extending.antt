@@ -1,5 +1,5 @@
 -- Texts that gain more.
-use Rattle.std.proofs.Common.{◌≡◌, ℕ, List, ◌++◌, ap, ◌∙◌, append_assoc}
+use Rattle.std.proofs.Common.{ℕ, List, ◌++◌, ap, ◌∙◌, append_assoc}
 use Rattle.probe_verdict.specs.Texts.{Extends}
 
 -- step by step

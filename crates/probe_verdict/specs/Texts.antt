@@ -9,3 +9,7 @@ pub record Extends (old new : List ℕ) : Type 0 where
 -- that each value agrees
 abbrev pub agreement_text : List ℕ
 agreement_text = codes "agrees, bit for bit\n"
+
+-- that a value differs, or a law is broken
+abbrev pub difference_text : List ℕ
+difference_text = codes "differs: "

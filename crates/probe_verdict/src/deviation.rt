@@ -1,7 +1,7 @@
 //! The last lines of a verdict: that each value is the kernel's, or the first that is not.
 
-ghost use Rattle.std.specs.Prelude.{◌≡◌, ◌++◌, IfNone, IfSome, OnOk, codes};
-ghost use Rattle.probe_verdict.specs.Texts.{Extends, agreement_text};
+ghost use Rattle.std.specs.Prelude.{◌≡◌, ◌++◌, IfNone, IfSome, OnOk};
+ghost use Rattle.probe_verdict.specs.Texts.{Extends, agreement_text, difference_text};
 
 use crate::heading::{NamedTask, ProbeHeading};
 use crate::names::{event_name, function_of, quantity_name, rule_function, rule_name};
@@ -27,7 +27,7 @@ pub fn put_answer(
     ensures agrees { OnOk result (IfNone first
         (out.new.items ≡ out.old.items ++ agreement_text)) }
     ensures differs { OnOk result (IfSome first
-        (λ d. Extends (out.old.items ++ codes "differs: ") out.new.items)) }
+        (λ d. Extends (out.old.items ++ difference_text) out.new.items)) }
 {
     match first {
         None => put(out, "agrees, bit for bit\n"),
