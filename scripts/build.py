@@ -74,6 +74,10 @@ class Builder:
         self.kit, self.folder, self.libraries = Kit(), kit_folder(), libraries
         self.kit_id = text_of(f"{self.folder}/KIT-ID")
 
+    def seen(self, crate):
+        """Where is kept that the kit took a crate's text whole, and found no contract in it that no call can meet."""
+        return f"{SEEN}/{hashlib.sha256(f'{crate.name} {crate.uses} {sum_of(*crate.parts)} {self.kit_id}'.encode()).hexdigest()}"
+
     def prove(self, part, jobs):
         """Proves a part, and makes what is made of it: whether it is well."""
         crate, path, began = part.crate, f"{part.kept}.log", time.time()
@@ -81,7 +85,7 @@ class Builder:
             os.makedirs(os.path.dirname(it), exist_ok=True)
         more = ["--jobs", str(jobs), *([] if self.libraries else ["--incremental", part.store])]
         more += ["--toolchain", f"{self.folder}/toolchain"] if part.links else []
-        seen = f"{SEEN}/{hashlib.sha256(f'{crate.name} {crate.uses} {sum_of(*crate.parts)} {self.kit_id}'.encode()).hexdigest()}"
+        seen = self.seen(crate)
         is_new = not part.ending and not os.path.isfile(seen)
         words = crate.words(self.folder, self.libraries or dict.fromkeys(crate.below, LIBRARIES))
         with open(path, "w+", encoding="utf-8") as log:
@@ -104,7 +108,8 @@ class Builder:
     def make(self, part, jobs):
         """Proves a part, and makes what is made of it, unless that was done: whether it is well."""
         note, read = f"{part.kept}.made", part.reads(self.kit_id)
-        if os.path.isfile(note) and all(map(os.path.exists, part.made)) and text_of(note).startswith(f"{read} {sum_of(*part.made)} "):
+        is_made = all(map(os.path.exists, [note, self.seen(part.crate), *part.made]))
+        if is_made and text_of(note).startswith(f"{read} {sum_of(*part.made)} "):
             return True
         # One checkout at a time writes what is kept of a crate.
         with open(f"{part.store}.lock", "w", encoding="utf-8") as lock:
