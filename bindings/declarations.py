@@ -53,7 +53,7 @@ def source():
     exports = text_of("crates/neddwyrol/src", "arithmetic.rt", "book.rt", "checks.rt", "first.rt")
     spoken, placed = text_of("crates/library_book/src", "calls.rt"), text_of("crates/library_book/src", "records.rt")
     numbers = {"GONE_FOR_GOOD": numbers_of(r"Place::(Gone) => \((\d+)", placed)["GONE"]}
-    numbers |= numbers_of(NUMBER, flat + exports) | numbers_of(r"BW_(UNIT): u32 = (\d+)", text_of("crates/grub_bw/src", "queue.rt"))
+    numbers |= numbers_of(NUMBER, flat + exports) | numbers_of(r"BW_(UNIT): u32 = (\d+)", text_of("crates/grub_book/src", "queue.rt"))
     numbers |= numbers_of(r"(\d+) => Some\(Op::(\w+)", spoken) | numbers_of(r"(\d+) => Place::(?:On\(queue, State::)?(\w+)", placed)
     numbers |= numbers_of(r"Reply::(\w+)(?: \{[^{}]*\}|\(\w\))? => \w+(?: \{\s*kind: |\()(\d+)", spoken)
     return structs_of(flat), calls_of(EXPORT, exports), numbers

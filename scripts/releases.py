@@ -1,5 +1,5 @@
 #!/usr/bin/env python3
-"""releases.py: holds the pages and the recorder to the table of releases in crates/kernel_versions/src/table.rt: the table of
+"""releases.py: holds the pages and the recorder to the table of releases in crates/kernel_rules/src/table.rt: the table of
 docs/KERNEL.md, the words for the releases that were tried, and the functions that the recorder probes. The last line is 'N passed, M failed'."""
 import re
 
@@ -28,8 +28,8 @@ def tried(rows, column):
 
 
 def main():
-    rows = ROW.findall(text_of(f"{ROOT}/crates/kernel_versions/src/table.rt"))
-    code = text_of(f"{ROOT}/crates/kernel_versions/src/release.rt")
+    rows = ROW.findall(text_of(f"{ROOT}/crates/kernel_rules/src/table.rt"))
+    code = text_of(f"{ROOT}/crates/kernel_rules/src/release.rt")
     page = text_of(f"{ROOT}/docs/KERNEL.md")
     probes = text_of(f"{ROOT}/kernel/probes.txt")
     known = Tried("releases")

@@ -11,8 +11,8 @@ from shared import ROOT, files_below, text_of
 
 CRATES = crates()
 # The crates whose definitions are not sorted yet: what stands on most of them is proved again with each change.
-UNSORTED = ("check_record", "check_settings", "kernel_entity", "law_findings", "neddwyrol_table", "probe_lines", "probe_run", "probe_tasks",
-            "probe_timers", "probe_values", "probe_verdict", "size_admission", "size_jobs", "size_report", "state_json", "timer_changes", "trace_check", "trace_fields", "trace_file")
+UNSORTED = ("check_record", "check_settings", "grubrun", "grubtrace", "kernel_rules", "law_findings", "neddwyrol_table", "probe_lines", "probe_run", "probe_tasks",
+            "probe_values", "size_admission", "size_jobs", "size_report", "trace_check", "trace_fields", "trace_file")
 WIDEST = 100
 WORD = re.compile(r"[^\W\d][\w'?]*")
 # In a specification: where a definition begins, its kind and name, the names of its parts, comments, and imports.

@@ -29,7 +29,7 @@ pub enum ParamFault {
 
 impl fmt::Display for ParamFault {
     ghost use Rattle.std.specs.Prelude.{Some};
-    ghost use Rattle.grub_book.specs.LimitMessages.{param_fault_text};
+    ghost use Rattle.grub_book.specs.Messages.{param_fault_text};
 
     ghost output = { λ fault. Some (param_fault_text fault) };
 

@@ -22,7 +22,7 @@ pub enum QueueFault {
 
 impl fmt::Display for QueueFault {
     ghost use Rattle.std.specs.Prelude.{Some};
-    ghost use Rattle.grub_book.specs.LimitMessages.{queue_fault_text};
+    ghost use Rattle.grub_book.specs.Messages.{queue_fault_text};
 
     ghost output = { λ fault. Some (queue_fault_text fault) };
 

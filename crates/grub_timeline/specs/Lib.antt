@@ -3,6 +3,5 @@ pub mod TimeLines
 pub mod Messages
 pub mod inside
 pub mod Fitting
-pub mod ViewMessages
 pub mod Past
 pub mod Replay

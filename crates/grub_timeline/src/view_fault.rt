@@ -12,7 +12,7 @@ pub enum ViewFault {
 
 impl fmt::Display for ViewFault {
     ghost use Rattle.std.specs.Prelude.{Some};
-    ghost use Rattle.grub_timeline.specs.ViewMessages.{view_fault_text};
+    ghost use Rattle.grub_timeline.specs.Messages.{view_fault_text};
 
     ghost output = { λ _. Some view_fault_text };
 

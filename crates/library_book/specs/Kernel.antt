@@ -1,4 +1,4 @@
--- What the kernel itself charges, in nanoseconds and with its own rounding: the `grub_reclaim` of kernel/sched/deadline.c, as `kernel_entity` has it.
+-- What the kernel itself charges, in nanoseconds and with its own rounding: the `grub_reclaim` of kernel/sched/deadline.c, as `kernel_rules` has it.
 use Rattle.std.specs.Prelude.{ℕ, nat_lt, false, if◌then◌else◌}
 use Rattle.kernel_rules.specs.Charge.{cost_of}
 use Rattle.kernel_rules.specs.Reservation.{fresh_of}

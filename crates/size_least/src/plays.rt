@@ -8,7 +8,7 @@ ghost use Rattle.size_least.specs.declared.job.Job.{Job};
 ghost use Rattle.size_least.specs.Plays.{EndInTime, EndsLate, HaveRoom, PlaysFresh, Run};
 
 /// In each play of a record's jobs from one of them on, each job that is in time by the definition ends by its due moment. The
-/// server is that of `grub_bw`: it wakes at a release that finds the task blocked, is refilled when its budget is used up, and
+/// server is that of `grub_book`: it wakes at a release that finds the task blocked, is refilled when its budget is used up, and
 /// each run pays at most what it ran. Nothing is asked of other tasks, of throttling or of reclaiming but that each budget can
 /// be had by its deadline.
 pub fn in_time_whatever_else_runs()

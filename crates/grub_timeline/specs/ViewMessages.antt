@@ -1,5 +1,0 @@
--- What each fault prints: its number and its name.
-use Rattle.std.specs.Prelude.{ℕ, List, codes}
-
-abbrev pub view_fault_text : List ℕ
-view_fault_text = codes "48 NoMemory"
