@@ -116,7 +116,8 @@ class Builder:
             fcntl.flock(lock, fcntl.LOCK_EX)
             well = self.prove(part, jobs)
         if well and read != part.reads(self.kit_id):
-            return say(f"build: a file of {part.crate.name} was changed meanwhile: start it again")
+            say(f"build: a file of {part.crate.name} was changed meanwhile: once more")
+            return self.make(part, jobs)
         if well:
             with open(note, "w", encoding="utf-8") as it:
                 it.write(f"{read} {sum_of(*part.made)} {'-' if part.links else statements(*part.made)}")
