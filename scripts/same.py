@@ -1,14 +1,17 @@
 #!/usr/bin/env python3
-"""same.py OLD NEW [--only WORD] [--jobs N]: runs grubrun and grubtrace of two folders over every record of the repository and of
-../shared, or those whose path has this word, and tells each difference: of the status, of both outputs, and of each file that a run makes.
-Then it tells the time and memory of both. It wants no proof. The last line is 'N passed, M failed'."""
+"""same.py OLD NEW [--only WORD] [--jobs N]: runs grubrun and grubtrace of two folders over every record and table of cases of the
+repository and of ../shared, or those whose path has this word, and tells each difference: of the status, of both outputs, and of each
+file that a run makes. Then it tells the time and memory of both. It wants no proof. The last line is 'N passed, M failed'."""
 import argparse
+import hashlib
 import os
 import re
 import subprocess
+import sys
 import tempfile
 from concurrent.futures import ThreadPoolExecutor
 
+from cases import Table, tables_of
 from crates import lanes
 from shared import ROOT, Tried, each, files_below, unpacked
 
@@ -19,7 +22,13 @@ TRACE, EVENTS = re.compile(rb"^# tracer|\[\d{3,}\].* [\d.]+: \w+", re.M), re.com
 VIEWS = [[], *(["--view", it] for it in ("timeline", "steps", "summary", "picture"))]
 FILES = ["--table", "table", "--json", "json", "--picture", "svg", "--report", "report"]
 # A run takes up to so many kB of memory, and seconds. Ratios of shorter runs, and of runs with less kB, say nothing.
-ROOM, SECONDS, SHORT, SMALL = 1_000_000, 600, 0.2, 65_536
+ROOM, SECONDS, SHORT, SMALL = 1_000_000, 600, 0.2, 32_768
+# Runs a program from a small process, since a large one would count in its memory.
+MEASURED = """import os, sys
+_, status, used = os.wait4(os.fork() or os.execv(sys.argv[1], sys.argv[1:]), 0)
+with open("figures", "w") as it:
+    it.write(f"{os.waitstatus_to_exitcode(status)},{used.ru_utime + used.ru_stime},{used.ru_maxrss}")
+"""
 
 
 class Run:
@@ -27,15 +36,15 @@ class Run:
 
     def __init__(self, words, files):
         with tempfile.TemporaryDirectory() as folder:
+            os.mkdir(f"{folder}/folder")
             for name, path in files.items():
                 os.symlink(path, f"{folder}/{name}")
             with open(f"{folder}/stdout", "wb") as out, open(f"{folder}/stderr", "wb") as err:
-                child = subprocess.Popen(["timeout", str(SECONDS), *words], cwd=folder, stdin=subprocess.DEVNULL, stdout=out, stderr=err)
-                _, status, used = os.wait4(child.pid, 0)
-            child.returncode = os.waitstatus_to_exitcode(status)
+                measured = ["timeout", str(SECONDS), sys.executable, "-I", "-S", "-c", MEASURED, *words]
+                subprocess.run(measured, cwd=folder, stdin=subprocess.DEVNULL, stdout=out, stderr=err, check=False)
             self.made = {os.path.relpath(it, folder): unpacked(it) for it in files_below(folder) if not os.path.islink(it)}
-        self.made["status"] = b"%d" % child.returncode
-        self.seconds, self.memory = used.ru_utime + used.ru_stime, used.ru_maxrss
+        self.made["status"], seconds, memory = self.made.pop("figures", f"no end after {SECONDS} s,0,0".encode()).split(b",")
+        self.seconds, self.memory = float(seconds), int(memory)
 
 
 def first_difference(old, new):
@@ -47,63 +56,78 @@ def first_difference(old, new):
     return f"line {at} was {str(was)[:300]}, and is {str(now)[:300]}"
 
 
-class Record:
-    """A record, what both pairs of programs do with it, and what differs."""
+class Compared:
+    """What both pairs of programs do with a record, or with a table of cases: the runs, and what is wrong with each."""
 
-    def __init__(self, name, path):
-        self.name, self.path, self.runs, self.faults = name, path, [], []
+    def __init__(self, name, folders):
+        self.name, self.folders, self.runs, self.faults = name, folders, [], []
 
-    def run(self, folders, program, words, files):
+    def run(self, program, words, files, what=""):
         """Runs a program of both folders: what the old one made."""
-        old, new = (Run([f"{it}/{program}", *words, *files], files) for it in folders)
-        what = f"{self.name}: {program} {' '.join(words)}"
-        self.runs.append((what, old.seconds, new.seconds, old.memory, new.memory))
+        old, new = (Run([f"{it}/{program}", *words], files) for it in self.folders)
+        self.runs.append((f"{self.name}: {what or ' '.join([program, *words])}", old.seconds, new.seconds, old.memory, new.memory))
         self.faults.append([f"{it}: {first_difference(old.made.get(it), new.made.get(it))}" for it in sorted({*old.made, *new.made})
                             if old.made.get(it) != new.made.get(it)])
         return old.made
 
-    def play(self, folders, files):
+    def play(self, files):
         for view in VIEWS:
-            self.run(folders, "grubrun", view, files)
+            self.run("grubrun", [*view, *files], files)
 
-    def try_trace(self, folders):
+    def try_trace(self, path):
         """All commands over a trace, and the event files that it becomes. A task without a note gets a reservation, or most would end at it."""
-        record = {"trace": self.path}
-        told = self.run(folders, "grubtrace", ["tasks"], record)["stdout"].decode(errors="replace")
-        given = [f"{pid}=5000:50000" for pid, more in re.findall(r"^task .*? pid=(\d+)(.*)", told, re.M) if " reserves=" not in more]
-        given, pids = each("--task", given), re.findall(r"^task .*? pid=(\d+)", told, re.M)
+        record = {"trace": path}
+        told = self.run("grubtrace", ["tasks", "trace"], record)["stdout"].decode(errors="replace")
+        tasks = re.findall(r"^task .*? pid=(\d+)(.*)", told, re.M)
+        given = each("--task", (f"{pid}=5000:50000" for pid, more in tasks if " reserves=" not in more))
         for words in ([], FILES, ["--why"], ["--timers", "--why", *FILES]):
-            self.run(folders, "grubtrace", ["check", *given, *words], record)
-        for words in ([], [*each("--task", (f"{it}=50000" for it in pids)), "--picture", "svg"]):
-            self.run(folders, "grubtrace", ["size", *words], record)
-        made = self.run(folders, "grubtrace", ["events", *given, "--out", "run"], record)
+            self.run("grubtrace", ["check", *given, *words, "trace"], record)
+        for words in ([], [*each("--task", (f"{pid}=50000" for pid, _ in tasks)), "--picture", "svg"]):
+            self.run("grubtrace", ["size", *words, "trace"], record)
+        made = self.run("grubtrace", ["events", *given, "--out", "run", "trace"], record)
         with tempfile.TemporaryDirectory() as folder:
             files = {it: f"{folder}/{it}" for it in sorted(made) if it.endswith(".grub")}
             for it, path in files.items():
-                with open(path, "wb") as file:
-                    file.write(made[it])
+                put(path, made[it])
             if files:
-                self.play(folders, files)
+                self.play(files)
 
-    def tried(self, folders):
-        with open(self.path, "rb") as it:
-            if EVENTS.match(it.readline().rstrip()):
-                self.play(folders, {"events": self.path})
-            else:
-                self.try_trace(folders)
-        return self
+    def try_cases(self, folder, cases):
+        """The runs of a table of cases, in which its files lie in a folder."""
+        files = {it: f"{folder}/{it}" for it in os.listdir(folder) if it != "folder"}
+        for case in cases:
+            if not {"-V", "--version", "in", "pieces", "into", "room", "most"}.intersection(case.words, case.given):
+                self.run(case.words[0], case.words[1:], files, case.name)
+
+
+def put(path, text):
+    with open(path, "wb") as it:
+        it.write(text)
 
 
 def records(folder, only):
-    """Each record, unpacked into a folder."""
+    """Each record, unpacked into a folder: its path, its length, and how it is tried."""
     seen = set()
-    for path in (it for place in PLACES for it in files_below(place) if os.path.isfile(it) and only in it):
-        text = unpacked(path)
-        if text not in seen and not path.endswith((".cases", ".md", ".py")) and (EVENTS.match(text) or TRACE.search(text)):
-            seen.add(text)
-            with open(f"{folder}/{len(seen)}", "wb") as it:
-                it.write(text)
-            yield Record(os.path.relpath(path, os.path.dirname(ROOT)), it.name)
+    for path in (it for place in PLACES for it in files_below(place) if only in it and os.path.isfile(it)):
+        text, at = unpacked(path), f"{folder}/{len(seen)}"
+        is_new = not path.endswith((".cases", ".md", ".py")) and hashlib.sha256(text).digest() not in seen
+        if is_new and (EVENTS.match(text) or TRACE.search(text)):
+            seen.add(hashlib.sha256(text).digest())
+            put(at, text)
+            is_trace = not EVENTS.match(text)
+            yield path, len(text), lambda it, at=at, is_trace=is_trace: it.try_trace(at) if is_trace else it.play({"events": at})
+
+
+def tables(folder, only):
+    """The same of each table of cases, whose files are made in a folder."""
+    for path in (it for it in tables_of([]) if only in it):
+        made = f"{folder}/{os.path.basename(path)}"
+        os.makedirs(f"{made}/folder")
+        os.symlink(f"{ROOT}/examples", f"{made}/examples")
+        os.chdir(made)
+        cases = Table(path).cases
+        os.chdir(ROOT)
+        yield path, 10_000_000, lambda it, made=made, cases=cases: it.try_cases(made, cases)
 
 
 def tell(what, runs, unit, least):
@@ -112,6 +136,12 @@ def tell(what, runs, unit, least):
     print(f"same: {what}: {old:.1f} {unit} before, {new:.1f} {unit} now")
     for name, was, now in sorted((it for it in runs if it[1] >= least), key=lambda it: -it[2] / it[1])[:3]:
         print(f"same:   {now / was:.2f} times: {was:.2f} {unit} before, {now:.2f} {unit} now: {name}")
+
+
+def tried(path, folders, work):
+    it = Compared(os.path.relpath(path, os.path.dirname(ROOT)), folders)
+    work(it)
+    return it
 
 
 def main():
@@ -123,13 +153,13 @@ def main():
     given, counts, runs = words.parse_args(), Tried("same"), []
     folders = [os.path.abspath(it) for it in (given.old, given.new)]
     with tempfile.TemporaryDirectory() as folder, ThreadPoolExecutor(given.jobs) as pool:
+        found = [*records(folder, given.only), *tables(folder, given.only)]
         # (first those that take longest)
-        found = sorted(records(folder, given.only), key=lambda it: -os.path.getsize(it.path))
-        for record in pool.map(lambda it: it.tried(folders), found):
-            for (what, *_), wrong in zip(record.runs, record.faults):
+        for compared in pool.map(lambda it: tried(it[0], folders, it[2]), sorted(found, key=lambda it: -it[1])):
+            for (what, *_), wrong in zip(compared.runs, compared.faults):
                 counts.add(what, wrong)
-            runs += record.runs
-    print(f"same: {len(found)} records")
+            runs += compared.runs
+    print(f"same: {len(found)} records and tables of cases")
     tell("time", [(it[0], it[1], it[2]) for it in runs], "s", SHORT)
     tell("memory", [(it[0], it[3] / 1024, it[4] / 1024) for it in runs], "MiB", SMALL / 1024)
     counts.end()
