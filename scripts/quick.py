@@ -59,7 +59,8 @@ def script(words):
 def judge(job):
     (work, name, of), began = job, time.time()
     passed, failed, said = work(of)
-    print(f"quick: {name}: {failed} FAILED: {said}" if failed else f"quick: {name}: {passed} passed, {time.time() - began:.0f} s", flush=True)
+    told = f"{failed} FAILED: {said}" if failed else f"{passed} passed"
+    print(f"quick: {name}: {time.time() - began:.0f} s, {told}", flush=True)
     return passed, failed
 
 

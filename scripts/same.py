@@ -32,7 +32,7 @@ with open("figures", "w") as it:
 
 
 class Run:
-    """A run of a program in a folder that has these files: what it made, its outputs and its status, and the time and memory that it took."""
+    """A run of a program in a folder that has these files: what it made, its outputs and status, and its time and memory."""
 
     def __init__(self, words, files):
         with tempfile.TemporaryDirectory() as folder:
@@ -75,7 +75,7 @@ class Compared:
             self.run("grubrun", [*view, *files], files)
 
     def try_trace(self, path):
-        """All commands over a trace, and the event files that it becomes. A task without a note gets a reservation, or most would end at it."""
+        """All commands over a trace, and the event files that it becomes. A task without a note gets a reservation, or most would end there."""
         record = {"trace": path}
         told = self.run("grubtrace", ["tasks", "trace"], record)["stdout"].decode(errors="replace")
         tasks = re.findall(r"^task .*? pid=(\d+)(.*)", told, re.M)

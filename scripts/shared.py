@@ -35,7 +35,7 @@ def rows_of(text):
 
 
 def built(program):
-    """The program that the gate or `make build` left, or `make unproved` where NEDDWYROL_UNPROVED is set. Where there is none, the step fails."""
+    """The program that the gate or `make build` left, or with NEDDWYROL_UNPROVED `make unproved`. Where there is none, the step fails."""
     path, left_by = f"{ROOT}/crates/{program}/out/{program}", "the gate and `make build` make it"
     if IS_UNPROVED:
         path, left_by = f"{UNPROVED}/{program}", "`make unproved` makes it"
