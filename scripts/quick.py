@@ -71,12 +71,12 @@ def main(words):
         os.execv(f"{UNPROVED}/{words[1]}", words[1:])
     known = crates()
     chosen = [known[it] for it in words] if words else list(known.values())
-    # (first those that take longest, since a try compiles all that its crate stands on)
-    chosen.sort(key=lambda it: -sum(known[low].weight for low in [*it.below, it.name]))
-    jobs = [(test, f"tests of {it.name}", it) for it in chosen if any("#[test]" in text_of(at) for at in files_below(it.parts[0]))]
-    jobs += [(play, f"program {it.name}", it) for it in chosen if os.path.isfile(f"{it.folder}/stdout")]
+    # (first those that take longest, since a try compiles all that its crate stands on; steps wait for both programs)
+    chosen.sort(key=lambda it: (it.name not in PROGRAMS, -sum(known[low].weight for low in [*it.below, it.name])))
+    jobs = [(play, f"program {it.name}", it) for it in chosen if os.path.isfile(f"{it.folder}/stdout")]
+    jobs += [(test, f"tests of {it.name}", it) for it in chosen if any("#[test]" in text_of(at) for at in files_below(it.parts[0]))]
     if not words:
-        jobs = [*((step, " ".join(it), it) for it in STEPS), *jobs, *((script, " ".join(it), it) for it in SCRIPTS)]
+        jobs += [*((step, " ".join(it), it) for it in STEPS), *((script, " ".join(it), it) for it in SCRIPTS)]
     with ThreadPoolExecutor(lanes(ROOM)) as pool:
         passed, failed = map(sum, zip(*pool.map(judge, jobs)))
     print(f"{passed} passed, {failed} failed")
