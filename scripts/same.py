@@ -75,7 +75,7 @@ class Compared:
             self.run("grubrun", [*view, *files], files)
 
     def try_trace(self, path):
-        """All commands over a trace, and the event files that it becomes. Tasks without a note get a reservation, or most would end there."""
+        """All commands over a trace, and the event files that it becomes. A task without a note gets some reservation, or most would end."""
         record = {"trace": path}
         told = self.run("grubtrace", ["tasks", "trace"], record)["stdout"].decode(errors="replace")
         tasks = re.findall(r"^task .*? pid=(\d+)(.*)", told, re.M)
