@@ -23,6 +23,8 @@ VIEWS = [[], *(["--view", it] for it in ("timeline", "steps", "summary", "pictur
 FILES = ["--table", "table", "--json", "json", "--picture", "svg", "--report", "report"]
 # A run takes up to so many kB of memory, and seconds. Ratios of shorter runs, and of runs with less kB, say nothing.
 ROOM, SECONDS, SHORT, SMALL = 1_000_000, 600, 0.2, 32_768
+# Cases that are not compared: those with a pipe, a limit or a device, which cases.py tries, and those that print the version.
+LEFT_OUT = {"in", "pieces", "into", "room", "most", "-V", "--version"}
 # Runs a program from a small process, since a large one would count in its memory.
 MEASURED = """import os, sys
 _, status, used = os.wait4(os.fork() or os.execv(sys.argv[1], sys.argv[1:]), 0)
@@ -71,11 +73,12 @@ class Compared:
         return old.made
 
     def play(self, files):
-        for view in VIEWS:
+        """Each view of event files. What several files answer without one depends on which thread is first."""
+        for view in VIEWS if len(files) == 1 else VIEWS[1:]:
             self.run("grubrun", [*view, *files], files)
 
     def try_trace(self, path):
-        """All commands over a trace, and the event files that it becomes. A task without a note gets some reservation, or most would end."""
+        """All commands over a trace, and the event files that it becomes. A task without a note gets a reservation, or most would end."""
         record = {"trace": path}
         told = self.run("grubtrace", ["tasks", "trace"], record)["stdout"].decode(errors="replace")
         tasks = re.findall(r"^task .*? pid=(\d+)(.*)", told, re.M)
@@ -96,7 +99,9 @@ class Compared:
         """The runs of a table of cases, in which its files lie in a folder."""
         files = {it: f"{folder}/{it}" for it in os.listdir(folder) if it != "folder"}
         for case in cases:
-            if not {"-V", "--version", "in", "pieces", "into", "room", "most"}.intersection(case.words, case.given):
+            names = [it for it in case.words[1:] if os.path.isfile(os.path.join(os.fsencode(folder), os.fsencode(it)))]
+            is_by_threads = case.words[0] == "grubrun" and "--view" not in case.words and len(names) > 1
+            if not is_by_threads and LEFT_OUT.isdisjoint([*case.words, *case.given]):
                 self.run(case.words[0], case.words[1:], files, case.name)
 
 
