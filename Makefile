@@ -8,7 +8,7 @@ FLAGS ?=
 TRACE ?= examples/kernel/trace.txt
 WORDS ?= tasks
 
-.PHONY: build everything runner tracer run try try-trace test quick edits growths cases options bench record-check dist install uninstall clean
+.PHONY: build everything runner tracer unproved run try try-trace test quick edits growths cases options bench record-check dist install uninstall clean
 
 # Proves both programs with all that they stand on, and builds them. What is proved is told crate by crate.
 build:
@@ -25,15 +25,19 @@ runner:
 tracer:
 	@python3 scripts/build.py grubtrace
 
+# Both with nothing proved, in three minutes: out/unproved/grubrun and out/unproved/grubtrace. What overflows or leaves its bounds ends them.
+unproved:
+	@python3 scripts/unproved.py
+
 # Plays the event files FILES, one runqueue each, and prints their reports.
 run: runner
 	@$(PROGRAM) $(FLAGS) $(FILES)
 
-# The same with nothing proved: an answer in about a minute, with the toolchain's own checks while it runs.
+# The same by the unproved program.
 try:
 	@python3 scripts/quick.py --try grubrun $(FLAGS) $(FILES)
 
-# `grubtrace WORDS TRACE` in the same way.
+# `grubtrace WORDS TRACE` by the unproved program.
 try-trace:
 	@python3 scripts/quick.py --try grubtrace $(WORDS) $(TRACE)
 
@@ -50,7 +54,7 @@ edits: build
 growths: runner
 	@python3 tests/refused-growths.py --build
 
-# All tests, and the programs that have a stored output, with nothing proved.
+# All tests, and by the unproved programs all cases, records, sizes and pages that the gate tries: the whole behaviour with no proof.
 quick:
 	@python3 scripts/quick.py
 

@@ -4,7 +4,7 @@
 of the library to the example in bindings/c. The last line is 'N passed, M failed'."""
 import re
 
-from shared import ROOT, Tried, built, ran, text_of
+from shared import IS_UNPROVED, ROOT, Tried, built, ran, text_of
 
 OFFERED = 'source "$1"; COMP_WORDS=("${@:2}"); COMP_CWORD=$(($# - 2)); "_$2"; echo "${COMPREPLY[@]}"'
 TRIED = Tried("options")
@@ -74,7 +74,7 @@ def hold(program):
             same(f"the synopsis of {name}", own, ["-h", "--help", *of_page(forms)])
     same(f"the list of docs/{program}.1", everything, of_page("".join(re.findall(r"^\.It Fl .*", page, re.M))))
     version = re.findall(r"^\.Os Neddwyrol (.*)", page, re.M)
-    same(f"the version in docs/{program}.1", said(program, "--version").split()[1:], version)
+    same(f"the version in docs/{program}.1", said(program, "--version").split()[1:2], version)
     if commands:
         same("bash for commands", [*commands, "-h", "--help", "-V", "--version"], of_bash(program, ""))
         same("zsh for commands", commands, re.findall(r"([a-z]+)\\:\"", zsh))
@@ -102,7 +102,7 @@ def versions():
         same(f"the version in {path}", [number], re.findall(pattern, text_of(f"{ROOT}/{path}"), re.M))
     same("the version of the Python module", [version], re.findall(r'^__version__ = "(.*)"', text_of(f"{ROOT}/bindings/python/neddwyrol.py"), re.M))
     for program in ("grubrun", "grubtrace"):
-        same(f"{program} --version", [version], said(program, "--version").split()[1:])
+        same(f"{program} --version", f"{program} {version}{' unproved' * IS_UNPROVED}\n", said(program, "--version"))
 
 
 def example(path, begin, drop, indent):

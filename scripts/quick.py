@@ -1,72 +1,87 @@
 #!/usr/bin/env python3
-"""quick.py [CRATE]..: runs all tests, and the programs that have a stored output, with nothing proved, by the kit's `rt try`.
-It stops at an index out of bounds or a number that overflows, and tries no contract. The last line is 'N passed, M failed'.
-quick.py --try PROGRAM WORD..: so runs grubrun or grubtrace, and ends with its status. A run has a minute."""
+"""quick.py [CRATE]..: what the gate tries, or tests and programs of these crates alone, with nothing proved: tests and examples by the
+kit's `rt try`, the programs as unproved.py makes them. A number that overflows and an index out of bounds stop a run, and no contract
+is tried. The last line is 'N passed, M failed'. quick.py --try PROGRAM WORD..: runs grubrun or grubtrace so, and ends with its status."""
 import os
+import re
 import sys
 import time
 from concurrent.futures import ThreadPoolExecutor
 
+from build import PROGRAMS
+from cases import tables_of
 from crates import crates, lanes
-from shared import ROOT, Tried, each, files_below, ran, text_of
+from shared import ROOT, UNPROVED, each, files_below, ran, text_of
+from unproved import unproved
 
 # One try takes up to so many kB of memory. Tests with checks are slow, so they have longer than the kit's minute.
-ROOM, SECONDS = 2_000_000, "240"
+ROOM, SECONDS = 2_000_000, "600"
+# What the gate tries by the proved programs: each table of cases by itself, those of records first, since they take longest.
+STEPS = [["scripts/cases.py", os.path.relpath(it, ROOT)] for it in tables_of([f"{ROOT}/examples/records", f"{ROOT}/tests"])]
+STEPS += [["tests/sizing.py"], ["tests/refused-growths.py"], ["scripts/options.py"]]
+# What it tries of scripts and pages.
+SCRIPTS = [["tests/harness.py"], ["scripts/releases.py"], ["scripts/trusted.py"]]
 
 
 def test(crate):
+    """The tests of a crate: how many passed and failed, as one, and what was said."""
     done = ran("rt", "try", "--test", "--seconds", SECONDS, cwd=crate.folder)
-    return done.returncode == 0, done.stderr
-
-
-def run(folder, files, words):
-    """A run of a program, which knows these files by these names."""
-    return ran("rt", "try", *each("--data", (f"{name}={path}" for name, path in files.items())), "--", *words, cwd=folder)
+    return (0, 1, done.stderr[-2000:]) if done.returncode else (1, 0, "")
 
 
 def play(crate):
-    """Whether a program's output is the stored one."""
-    words = text_of(f"{crate.folder}/args").split("\n") if os.path.isfile(f"{crate.folder}/args") else []
+    """The same of a program, whose output is the stored one."""
+    words = text_of(f"{crate.folder}/args").splitlines() if os.path.isfile(f"{crate.folder}/args") else []
     files = {os.path.relpath(it, f"{crate.folder}/data"): it for it in files_below(f"{crate.folder}/data")}
-    done = run(crate.folder, files, [it for it in words if it])
-    return done.stdout == text_of(f"{crate.folder}/stdout"), done.stderr
+    if crate.name not in PROGRAMS:
+        done = ran("rt", "try", *each("--data", (f"{name}={path}" for name, path in files.items())), "--", *words, cwd=crate.folder)
+    elif unproved([crate.name]):
+        done = ran(f"{UNPROVED}/{crate.name}", *words, cwd=f"{crate.folder}/data")
+    else:
+        return 0, 1, "it was not made"
+    return (1, 0, "") if done.stdout == text_of(f"{crate.folder}/stdout") else (0, 1, done.stderr[-2000:])
+
+
+def step(words):
+    """The same of a script over the unproved programs, which ends with its counts."""
+    if not unproved(PROGRAMS):
+        return 0, 1, "the programs were not made"
+    return script(words)
+
+
+def script(words):
+    done = ran(sys.executable, *words, cwd=ROOT, env={**os.environ, "NEDDWYROL_UNPROVED": "1"})
+    counted = re.search(r"^(\d+) passed, (\d+) failed\n\Z", done.stdout, re.M)
+    passed, failed = map(int, counted.groups()) if counted else (0, 1)
+    return passed, max(failed, done.returncode != 0), (done.stdout + done.stderr)[-4000:]
 
 
 def judge(job):
-    (name, work, crate), began = job, time.time()
-    well, said = work(crate)
-    print(f"quick: {name} {crate.name}: {'passed' if well else 'FAILED'}, {time.time() - began:.0f} s", flush=True)
-    return [] if well else [said[-2000:]]
-
-
-def try_program(program, words):
-    """One run of a program, in a folder of its own, so each file is handed over under the name that the words give it."""
-    below = [it for it in words if os.path.isfile(it) and not it.startswith("/") and ".." not in it.split("/")]
-    given = [os.path.realpath(it) if os.path.isfile(it) and it not in below else it for it in words]
-    print(f"try: {program} as it stands, with nothing proved; this takes a minute or two", file=sys.stderr, flush=True)
-    done = run(f"{ROOT}/crates/{program}", {it: os.path.realpath(it) for it in below}, given)
-    sys.stdout.write(done.stdout)
-    said = done.stderr.splitlines(True)
-    has_ended = any(it.startswith("run=ended status=") for it in said)
-    sys.stderr.writelines(it for it in said if not (has_ended and it.startswith(("checked:", "races:", "run="))))
-    return done.returncode
+    (work, name, of), began = job, time.time()
+    passed, failed, said = work(of)
+    told = f"{failed} FAILED: {said}" if failed else f"{passed} passed"
+    print(f"quick: {name}: {time.time() - began:.0f} s, {told}", flush=True)
+    return passed, failed
 
 
 def main(words):
     if words[:1] == ["--try"]:
-        sys.exit(try_program(words[1], words[2:]))
-    known, counts = crates(), Tried("quick")
+        if not unproved([words[1]]):
+            return 1
+        os.execv(f"{UNPROVED}/{words[1]}", words[1:])
+    known = crates()
     chosen = [known[it] for it in words] if words else list(known.values())
-    has_tests = [it for it in chosen if any("#[test]" in text_of(at) for at in files_below(it.parts[0]))]
-    jobs = [("tests of", test, it) for it in has_tests]
-    jobs += [("program", play, it) for it in chosen if os.path.isfile(f"{it.folder}/stdout")]
-    # (first those that take longest, since a try compiles all that its crate stands on)
-    jobs.sort(key=lambda it: -sum(known[low].weight for low in [*it[2].below, it[2].name]))
+    # (first those that take longest, since a try compiles all that its crate stands on; steps wait for both programs)
+    chosen.sort(key=lambda it: (it.name not in PROGRAMS, -sum(known[low].weight for low in [*it.below, it.name])))
+    jobs = [(play, f"program {it.name}", it) for it in chosen if os.path.isfile(f"{it.folder}/stdout")]
+    jobs += [(test, f"tests of {it.name}", it) for it in chosen if any("#[test]" in text_of(at) for at in files_below(it.parts[0]))]
+    if not words:
+        jobs += [*((step, " ".join(it), it) for it in STEPS), *((script, " ".join(it), it) for it in SCRIPTS)]
     with ThreadPoolExecutor(lanes(ROOM)) as pool:
-        for (name, _, crate), wrong in zip(jobs, pool.map(judge, jobs)):
-            counts.add(f"{name} {crate.name}", wrong)
-    counts.end()
+        passed, failed = map(sum, zip(*pool.map(judge, jobs)))
+    print(f"{passed} passed, {failed} failed")
+    return failed > 0
 
 
 if __name__ == "__main__":
-    main(sys.argv[1:])
+    sys.exit(main(sys.argv[1:]))

@@ -6,6 +6,8 @@ import sys
 
 ROOT = os.path.dirname(os.path.dirname(os.path.abspath(__file__)))
 RECORDS = f"{ROOT}/examples/records"
+# Where `make unproved` leaves its programs, and whether those are meant.
+UNPROVED, IS_UNPROVED = f"{ROOT}/out/unproved", bool(os.environ.get("NEDDWYROL_UNPROVED"))
 
 
 def text_of(path):
@@ -33,10 +35,12 @@ def rows_of(text):
 
 
 def built(program):
-    """The program that the gate or `make build` left. Where there is none, the step fails."""
-    path = f"{ROOT}/crates/{program}/out/{program}"
+    """The program that the gate or `make build` left, or with NEDDWYROL_UNPROVED `make unproved`. Where there is none, the step fails."""
+    path, left_by = f"{ROOT}/crates/{program}/out/{program}", "the gate and `make build` make it"
+    if IS_UNPROVED:
+        path, left_by = f"{UNPROVED}/{program}", "`make unproved` makes it"
     if not os.access(path, os.X_OK):
-        sys.exit(f"there is no {path}; the gate and `make build` make it\n0 passed, 1 failed")
+        sys.exit(f"there is no {path}; {left_by}\n0 passed, 1 failed")
     return path
 
 

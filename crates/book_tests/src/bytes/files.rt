@@ -29,22 +29,19 @@ fn single_bytes(rt: HostRuntime) -> Result<(), Fail> {
     Ok(())
 }
 
-/// Fills all room with sevens, as long as there are some left.
-fn sevens(left: &mut usize, room: &mut [u8]) -> io::Result<usize> {
+/// Says that it filled all room, as long as there is something left. (Each byte would take long under `rt try`.)
+fn claimed(left: &mut usize, room: &mut [u8]) -> io::Result<usize> {
     let count = room.len().min(*left);
-    for byte in room.iter_mut().take(count) {
-        *byte = b'7';
-    }
     *left -= count;
     Ok(count)
 }
 
-/// How many sevens are read of so many, or why not.
-fn sevens_read(alloc: Global, count: usize) -> Result<usize, FileFault> {
+/// How many bytes are read of so many, or why not.
+fn length_of(alloc: Global, count: usize) -> Result<usize, FileFault> {
     let mut left = count;
     let bytes = read_all(
         alloc,
-        &|left: &mut usize, room: &mut [u8]| sevens(left, room),
+        &|left: &mut usize, room: &mut [u8]| claimed(left, room),
         &mut left,
     );
     match bytes {
@@ -56,10 +53,10 @@ fn sevens_read(alloc: Global, count: usize) -> Result<usize, FileFault> {
 #[test]
 fn lengths(rt: HostRuntime) {
     for count in [0, 1, 65535, 65536, 65537, 1000000, 16777216] {
-        assert_eq!(rt; sevens_read(rt.alloc(), count), Ok(count));
+        assert_eq!(rt; length_of(rt.alloc(), count), Ok(count));
     }
     for count in [16777217, 33554432] {
-        assert_eq!(rt; sevens_read(rt.alloc(), count), Err(FileFault::TooLong));
+        assert_eq!(rt; length_of(rt.alloc(), count), Err(FileFault::TooLong));
     }
 }
 
@@ -69,7 +66,7 @@ fn no_end(rt: HostRuntime) {
     let mut left = 20000000;
     let bytes = read_all(
         rt.alloc(),
-        &|left: &mut usize, room: &mut [u8]| sevens(left, room),
+        &|left: &mut usize, room: &mut [u8]| claimed(left, room),
         &mut left,
     );
     assert!(rt; bytes.is_err());
@@ -123,7 +120,7 @@ fn no_opening(rt: HostRuntime) {
 #[test]
 fn refused_growths(rt: HostRuntime) {
     let count = 200000;
-    match sevens_read(rt.alloc(), count) {
+    match length_of(rt.alloc(), count) {
         Ok(length) => assert_eq!(rt; length, count),
         Err(fault) => assert!(rt; fault == FileFault::NoMemory),
     }
