@@ -4,10 +4,13 @@ the language, by the error that a line 'error: NAME' of the edit names. Only the
 of the crate that they call, over the libraries that `rt ci` or scripts/build.py left. All edits of a crate are tried in one
 check, each in a copy of its function. What that does not refuse is tried alone, in its place, and then in a check of the whole
 crate. What was refused is kept on this machine, by a sum of all that its check read. What is not tried in N minutes has failed.
-The last line is 'N passed, M failed'."""
+With --gate those are tried whose crates changed since the commit that .ci/edits-tried names, and 60 others, drawn by the commit's own
+hash. A run of all that are refused, with nothing left to commit, writes that file. With --over-ci the libraries are those that
+`rt ci` just left. The last line is 'N passed, M failed'."""
 import argparse
 import hashlib
 import os
+import random
 import re
 import shutil
 import subprocess
@@ -17,12 +20,14 @@ import time
 from concurrent.futures import ThreadPoolExecutor
 from functools import cache
 
-from crates import CACHE, LIBRARIES, ROOM, crates, kit_folder, lanes, left_by_ci, sum_of
+from crates import CACHE, LIBRARIES, ROOM, crates, kit_folder, lanes, left_by_ci, statements, sum_of
 from shared import ROOT, Tried, each, files_below, ran, text_of
 
 # No check that goes well takes so many seconds.
 LONGEST = 1800
 KEPT = f"{CACHE}/edits"
+# The commit on which all edits were last tried, and how many the gate draws of those whose crates are as they were there.
+ALL_TRIED, DRAWN = f"{ROOT}/.ci/edits-tried", 60
 FUNCTION = re.compile(r"^( *)(?:#\[.*\]\n *)*(?:pub(?:\(\w+\))? )?(?:const )?(?:unsafe )?(?:extern \"C\" )?fn (\w+)", re.M)
 TYPE = re.compile(r"^(?:impl|trait)(?:<.*?>)? (?:(?:\w+::)*(\w+(?:<.*>)?) for )?&?(?:\w+::)*(\w+)", re.M)
 # A text that cannot be read: then no contract was tried. And what the prover says of a function that it does not admit.
@@ -120,9 +125,14 @@ class Trial:
         self.kit, self.libraries, self.room, self.end = kit_folder(), libraries, room, end
 
     @cache
+    def stated(self, name):
+        """A sum of what a library below states."""
+        return statements(f"{self.libraries[name]}/{name}.rlib")
+
+    @cache
     def read(self, crate):
         """A sum of all that checks of a crate read."""
-        low = [sum_of(f"{self.libraries[it]}/{it}.rlib", start=self.libraries[it]) for it in crate.below]
+        low = [self.stated(it) for it in crate.below]
         own = sum_of(f"{ROOT}/scripts/crates.py", f"{ROOT}/scripts/edits.py", *crate.parts)
         return " ".join([text_of(f"{self.kit}/KIT-ID"), crate.name, *crate.uses, own, *low])
 
@@ -186,17 +196,37 @@ class Trial:
         return {**wrong, **{it: ["NOT TRIED: the time was over"] for it in left}}
 
 
+def git(*words):
+    done = ran("git", *words, cwd=ROOT)
+    return done.stdout.split() if done.returncode == 0 else None
+
+
+def of_the_gate(edits):
+    """The edits of crates that changed since all were tried, and a draw of the others. All, where git does not know that commit."""
+    last = text_of(ALL_TRIED).strip() if os.path.isfile(ALL_TRIED) else ""
+    changed = git("diff", "--name-only", last, "--", "crates") if last else None
+    if changed is None:
+        return edits
+    crates_changed = {it.split("/")[1] for it in changed}
+    others = [it for it in edits if it.crate.name not in crates_changed]
+    drawn = random.Random(git("rev-parse", "HEAD")[0]).sample(others, min(DRAWN, len(others)))
+    return [it for it in edits if it in drawn or it not in others]
+
+
 def main():
     parser = argparse.ArgumentParser(description=__doc__, formatter_class=argparse.RawDescriptionHelpFormatter)
     parser.add_argument("names", nargs="*", metavar="NAME | NAME/EDIT")
     parser.add_argument("--minutes", type=float, default=float("inf"))
+    parser.add_argument("--gate", action="store_true")
+    parser.add_argument("--over-ci", action="store_true")
     given = parser.parse_args()
     known = crates()
     edits = [Edit(crate, it) for crate in known.values() for it in files_below(f"{crate.folder}/edits")]
     lacking = set(given.names) - known.keys() - {it.label for it in edits}
     edits = [it for it in edits if not given.names or {it.crate.name, it.label} & set(given.names)]
+    edits = of_the_gate(edits) if given.gate else edits
     below = {low for it in edits for low in it.crate.below}
-    libraries = left_by_ci(below) or dict.fromkeys(below, LIBRARIES)
+    libraries = given.over_ci and left_by_ci(below) or dict.fromkeys(below, LIBRARIES)
     if lacking or not all(os.path.isdir(f"{at}/{it}.rlib") for it, at in libraries.items()):
         said = f"there is no {' and no '.join(lacking)}" if lacking else "rt ci or scripts/build.py must make the libraries"
         sys.exit(f"edits: {said}\n0 passed, 1 failed")
@@ -210,6 +240,9 @@ def main():
         for told in pool.map(Trial(libraries, room, time.time() + 60 * given.minutes).run, own):
             for edit, wrong in told.items():
                 tried.add(edit.label, wrong)
+    if not (given.names or given.gate or tried.failed or git("status", "--porcelain")):
+        with open(ALL_TRIED, "w", encoding="utf-8") as it:
+            it.write(f"{git('rev-parse', 'HEAD')[0]}\n")
     tried.end()
 
 

@@ -1,12 +1,13 @@
 #!/usr/bin/env python3
 """selftest.py: tries the scripts that judge on faults that are planted into a repository of two small crates. build.py has to refuse
-a wrong body, edits.py to tell an edit that is still proved, and trusted.py a definition in the wrong folder and a contract of an
-exported call. Each also has to pass where nothing is planted. The last line is 'N passed, M failed'."""
+a wrong body, a weak clause that a crate above rests on, a changed definition and a lacking file, all over what an earlier run
+kept, which may be damaged; edits.py to tell an edit that is still proved, and trusted.py a definition in the wrong folder and a
+contract of an exported call. Each also has to pass where nothing is planted. The last line is 'N passed, M failed'."""
 import os
 import shutil
 import tempfile
 
-from shared import ROOT, Tried, ran
+from shared import ROOT, Tried, files_below, ran
 
 ROOTS = """//! Numbers, doubled.
 #![tactic(auto)]
@@ -69,9 +70,15 @@ FILES = {
     "crates/exported/specs/Four.antt": FOUR,
     "docs/READING.md": "`grub_doubling/specs/Twice`, `exported/specs/Four`\n",
 }
-# What is planted: the script that has to tell it, the file, what stands there, and what takes its place.
+BODY = ("build.py", "crates/grub_doubling/src/number.rt", "+ u64::from(number)", "+ 1")
+# What is planted: the script that has to tell it, the file, what stands there, and what takes its place (nothing: the file goes).
 PLANTED = [
-    ("build.py", "crates/grub_doubling/src/number.rt", "+ u64::from(number)", "+ 1"),
+    BODY,
+    ("build.py", "crates/exported/src/number.rt", "number) + u32", "number) + 1 + u32"),
+    ("build.py", "crates/grub_doubling/src/number.rt", "    ensures { result ≡ twice_of number }\n", ""),
+    ("build.py", "crates/grub_doubling/specs/Twice.antt", "= x + x", "= x + x + x"),
+    ("build.py", "crates/exported/specs/Four.antt", "(x + x)", "(x + x + x)"),
+    ("build.py", "crates/exported/specs/Four.antt", FOUR, None),
     ("edits.py", "crates/grub_doubling/edits/one_more.edit", "u64::from(number) + 1\n", "(u64::from(number) + u64::from(number))\n"),
     ("trusted.py", "docs/READING.md", ", `exported/specs/Four`", ""),
     ("trusted.py", "crates/grub_doubling/specs/Twice.antt", "abbrev pub twice_of",
@@ -93,6 +100,24 @@ def put(path, text):
         it.write(text)
 
 
+def plant(folder, script, path, old, new):
+    """Tries a script where this is planted, and then takes it away."""
+    if new is None:
+        os.remove(f"{folder}/{path}")
+    else:
+        put(f"{folder}/{path}", FILES[path].replace(old, new, 1))
+    passes, said = judged(folder, script)
+    TRIED.add(f"{script} where {path} has {new!r}", [] if not passes else [said[-600:]])
+    put(f"{folder}/{path}", FILES[path])
+
+
+def damage(folder):
+    """Cuts all that is kept of modules in half."""
+    for path in files_below(f"{folder}/cache/neddwyrol/modules"):
+        os.truncate(path, os.path.getsize(path) // 2)
+    shutil.rmtree(f"{folder}/out", ignore_errors=True)
+
+
 def main():
     with tempfile.TemporaryDirectory() as folder:
         shutil.copytree(f"{ROOT}/scripts", f"{folder}/scripts")
@@ -101,12 +126,12 @@ def main():
         for script in ("build.py", "edits.py", "trusted.py"):
             passes, said = judged(folder, script)
             TRIED.add(f"{script} with nothing planted", [] if passes else [said[-600:]])
-        for script, path, old, new in PLANTED:
-            text = FILES[path]
-            put(f"{folder}/{path}", text.replace(old, new, 1))
-            passes, said = judged(folder, script)
-            TRIED.add(f"{script} where {path} has {new.strip()!r}", [] if not passes else [said[-600:]])
-            put(f"{folder}/{path}", text)
+        for it in PLANTED:
+            plant(folder, *it)
+        damage(folder)
+        plant(folder, *BODY)
+        passes, said = judged(folder, "build.py")
+        TRIED.add("build.py over damaged modules", [] if passes else [said[-600:]])
     TRIED.end()
 
 
