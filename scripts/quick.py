@@ -1,7 +1,7 @@
 #!/usr/bin/env python3
 """quick.py [CRATE]..: what the gate tries, or tests and programs of these crates alone, with nothing proved: tests and examples by the
 kit's `rt try`, the programs as unproved.py makes them. A number that overflows and an index out of bounds stop a run, and no contract
-is tried. The last line is 'N passed, M failed'. quick.py --try PROGRAM WORD..: runs grubrun or grubtrace so, and ends with its status."""
+is tried. The last line is 'N passed, M failed'."""
 import os
 import re
 import sys
@@ -61,10 +61,6 @@ def judge(job):
 
 
 def main(words):
-    if words[:1] == ["--try"]:
-        if not unproved([words[1]]):
-            return 1
-        os.execv(f"{UNPROVED}/{words[1]}", words[1:])
     known = crates()
     chosen = [known[it] for it in words] if words else list(known.values())
     # (first those that take longest, since a try compiles all that its crate stands on; steps wait for both programs)
