@@ -2,9 +2,11 @@
 
 PROGRAM := crates/grubrun/out/grubrun
 TRACER := crates/grubtrace/out/grubtrace
+UNPROVED := out/unproved
 PREFIX ?= /usr/local
 FILES ?= examples/documentation.grub
 FLAGS ?=
+RECORD ?= examples/records/probes/6.12-back.txt.xz
 TRACE ?= examples/kernel/trace.txt
 WORDS ?= tasks
 
@@ -33,13 +35,15 @@ unproved:
 run: runner
 	@$(PROGRAM) $(FLAGS) $(FILES)
 
-# The same by the unproved program.
-try:
-	@python3 scripts/quick.py --try grubrun $(FLAGS) $(FILES)
+# The same with nothing proved, and then a verdict on the kernel's record RECORD.
+try: unproved
+	@$(UNPROVED)/grubrun $(FLAGS) $(FILES)
+	@xz -dc $(RECORD) | $(UNPROVED)/grubtrace check -
 
-# `grubtrace WORDS TRACE` by the unproved program.
+# `grubtrace WORDS TRACE` with nothing proved.
 try-trace:
-	@python3 scripts/quick.py --try grubtrace $(WORDS) $(TRACE)
+	@python3 scripts/unproved.py grubtrace
+	@$(UNPROVED)/grubtrace $(WORDS) $(TRACE)
 
 # The gate: every proof that the machine has not kept, must-fail edits, all tests and the stored run, each growth of memory refused in
 # turn, and the programs' cases.

@@ -1,7 +1,7 @@
 #!/usr/bin/env python3
 """quick.py [CRATE]..: what the gate tries, or tests and programs of these crates alone, with nothing proved: tests and examples by the
 kit's `rt try`, the programs as unproved.py makes them. A number that overflows and an index out of bounds stop a run, and no contract
-is tried. The last line is 'N passed, M failed'. quick.py --try PROGRAM WORD..: runs grubrun or grubtrace so, and ends with its status."""
+is tried. The last line is 'N passed, M failed'."""
 import os
 import re
 import sys
@@ -9,18 +9,15 @@ import time
 from concurrent.futures import ThreadPoolExecutor
 
 from build import PROGRAMS
-from cases import tables_of
 from crates import crates, lanes
 from shared import ROOT, UNPROVED, each, files_below, ran, text_of
 from unproved import unproved
 
 # One try takes up to so many kB of memory. Tests with checks are slow, so they have longer than the kit's minute.
 ROOM, SECONDS = 2_000_000, "600"
-# What the gate tries by the proved programs: each table of cases by itself, those of records first, since they take longest.
-STEPS = [["scripts/cases.py", os.path.relpath(it, ROOT)] for it in tables_of([f"{ROOT}/examples/records", f"{ROOT}/tests"])]
-STEPS += [["tests/sizing.py"], ["tests/refused-growths.py"], ["scripts/options.py"]]
-# What it tries of scripts and pages.
-SCRIPTS = [["tests/harness.py"], ["scripts/releases.py"], ["scripts/trusted.py"]]
+# What the gate tries by the proved programs, and what it tries of scripts and pages.
+STEPS = ["scripts/cases.py tests", "scripts/cases.py examples/records", "tests/sizing.py", "tests/refused-growths.py", "scripts/options.py"]
+SCRIPTS = ["tests/harness.py", "scripts/releases.py", "scripts/trusted.py"]
 
 
 def test(crate):
@@ -43,14 +40,13 @@ def play(crate):
 
 
 def step(words):
-    """The same of a script over the unproved programs, which ends with its counts."""
-    if not unproved(PROGRAMS):
-        return 0, 1, "the programs were not made"
-    return script(words)
+    """The same of a script over the unproved programs."""
+    return script(words) if unproved(PROGRAMS) else (0, 1, "the programs were not made")
 
 
 def script(words):
-    done = ran(sys.executable, *words, cwd=ROOT, env={**os.environ, "NEDDWYROL_UNPROVED": "1"})
+    """The same of a script, which ends with its counts."""
+    done = ran(sys.executable, *words.split(), cwd=ROOT, env={**os.environ, "NEDDWYROL_UNPROVED": "1"})
     counted = re.search(r"^(\d+) passed, (\d+) failed\n\Z", done.stdout, re.M)
     passed, failed = map(int, counted.groups()) if counted else (0, 1)
     return passed, max(failed, done.returncode != 0), (done.stdout + done.stderr)[-4000:]
@@ -65,10 +61,6 @@ def judge(job):
 
 
 def main(words):
-    if words[:1] == ["--try"]:
-        if not unproved([words[1]]):
-            return 1
-        os.execv(f"{UNPROVED}/{words[1]}", words[1:])
     known = crates()
     chosen = [known[it] for it in words] if words else list(known.values())
     # (first those that take longest, since a try compiles all that its crate stands on; steps wait for both programs)
@@ -76,7 +68,7 @@ def main(words):
     jobs = [(play, f"program {it.name}", it) for it in chosen if os.path.isfile(f"{it.folder}/stdout")]
     jobs += [(test, f"tests of {it.name}", it) for it in chosen if any("#[test]" in text_of(at) for at in files_below(it.parts[0]))]
     if not words:
-        jobs += [*((step, " ".join(it), it) for it in STEPS), *((script, " ".join(it), it) for it in SCRIPTS)]
+        jobs += [*((step, it, it) for it in STEPS), *((script, it, it) for it in SCRIPTS)]
     with ThreadPoolExecutor(lanes(ROOM)) as pool:
         passed, failed = map(sum, zip(*pool.map(judge, jobs)))
     print(f"{passed} passed, {failed} failed")
