@@ -8,6 +8,7 @@ FILES ?= examples/documentation.grub
 FLAGS ?=
 RECORD ?= examples/records/probes/6.12-back.txt.xz
 TRACE ?= examples/kernel/trace.txt
+RECORD ?= examples/records/probes/6.12-back.txt.xz
 WORDS ?= tasks
 
 .PHONY: build everything runner tracer unproved run try try-trace test anew quick edits growths cases options bench record-check dist install uninstall clean
