@@ -161,7 +161,9 @@ def gate(known):
         if part.label in made and (part.is_tests or part.crate.is_program):
             runs = builder.kit.runs(part.crate.name, part.is_tests, "" if part.is_tests else part.ending)
             tried.add(f"{part.label}, run", [] if runs else ["it failed"])
-    print("proofs: the ten dearest: " + "; ".join(text_of(f"{BUILD}/times").split("\n")[:10]))
+    spent = os.times()
+    print(f"proofs: {spent.children_user + spent.children_system:.0f} s of a processor; the ten dearest took " +
+          "; ".join(text_of(f"{BUILD}/times").split("\n")[:10]))
     tried.end()
 
 
