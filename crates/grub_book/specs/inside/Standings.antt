@@ -1,7 +1,8 @@
 -- What a book keeps: its records are sound, and its running totals are their sums.
-use Rattle.std.specs.Prelude.{◌≡◌, ℕ, ◌<◌, List, length, slice_index_or}
+use Rattle.std.specs.Prelude.{◌≡◌, ℕ, ◌<◌, min, List, length, slice_index_or, Option, Some, None}
 use Rattle.grub_book.specs.Machine.{Machine, IsMachine}
-use Rattle.grub_book.specs.Sums.{Records, reading_of}
+use Rattle.grub_book.specs.Server.{Fits}
+use Rattle.grub_book.specs.Sums.{Records, record_at, reading_of}
 use Rattle.grub_book.specs.Sound.{Standing, IsSound}
 use Rattle.grub_book.specs.declared.event.Reading.{Reading}
 
@@ -18,3 +19,12 @@ pub record IsTotalled (b : Standing) (readings : List Reading) : Type 0 where
   pub standing : IsStanding b
   pub one_each : length readings ≡ length b.setup.queues
   pub totals : AreTotals b.setup b.records readings
+
+-- each server has a budget within its reservation
+abbrev pub AllFit : Records → Type 0
+AllFit book = (t : ℕ) → t < length book → Fits (record_at book t).server (record_at book t).params
+
+-- the lesser of a number and of a moment, if there is one
+abbrev pub lesser_of : ℕ → Option ℕ → ℕ
+lesser_of least None = least
+lesser_of least (Some m) = min least m
