@@ -5,6 +5,7 @@ pub mod Locating
 pub mod Beginning
 pub mod Stepping
 pub mod Moves
+pub mod Rebases
 pub mod Asking
 pub mod Replaying
 pub mod Telling

@@ -1,4 +1,4 @@
--- A recorded history without moves is one of the one-thread book.
+-- A recorded history without moves and rebases is one of the one-thread book.
 use Rattle.std.proofs.Common.{◌≡◌, ◌≢◌, ℕ, ◌<◌, ◌*◌, ◌/◌, ◌^◌, ◌==◌, ◌&&◌, ◌||◌, Bool, true, false, cond, nat_lt, nat_le, List, [], ◌∷◌, length, fold, set, Option, Some, None, inl, inr, refl, sym, ap, subst, ◌∙◌}
 use Rattle.std.proofs.lemmas.Bool.{eq-eqb, ltb-true, lt-ltb, leb-true, le-leb, ne_eqb}
 use Rattle.std.proofs.lemmas.List.{length-set}
@@ -15,9 +15,10 @@ use Rattle.grub_book.specs.declared.reply.Reply.{Reply}
 use Rattle.library_book.specs.Asked.{op_of, op_fits, may_ask, reply_of}
 use Rattle.library_book.specs.Answer.{is_op, is_move, answer, answer_to, declined, stepped}
 use Rattle.library_book.specs.Recorded.{IsOfBook, IsRecordedFrom, book_after, book_recorded, reading_told}
-use Rattle.library_book.specs.Told.{Tells, TellsAll, HasNoMoves}
+use Rattle.library_book.specs.Rebase.{rebase_answer}
+use Rattle.library_book.specs.Told.{Tells, TellsAll, HasStepsAlone}
 use Rattle.library_book.specs.declared.asked.TheConstants.{MOVE}
-use Rattle.library_book.specs.declared.checker.TheConstants.{CALL, READING}
+use Rattle.library_book.specs.declared.checker.TheConstants.{CALL, READING, REBASE}
 use Rattle.library_book.specs.declared.codes.TheConstants.{NO_TASK, NO_OP}
 use Rattle.grub_book.specs.declared.place.Record.{Record}
 use Rattle.library_book.specs.declared.asked.NdEvent.{NdEvent}
@@ -103,13 +104,13 @@ module _ (s : Machine) (book : Records) (x : NdEvent) where
       ∙ ap (answer_to s book x.number x.op) op ∙ ap (λ b. cond b (stepped s book x.number it) (declined book NO_OP)) fits
 
 call_after : (s : Machine) (book : Records) (x : NdEvent) → x.kind ≡ CALL → book_after s book x ≡ (answer s book x.number x.op).0
-call_after s book x is = ap (λ b. cond b (answer s book x.number x.op).0 book) (eq-eqb x.kind CALL is)
+call_after s book x is = ap (λ b. cond b (answer s book x.number x.op).0 (cond (x.kind == REBASE) (rebase_answer x.number book).0 book)) (eq-eqb x.kind CALL is)
 
 look_after : (s : Machine) (book : Records) (x : NdEvent) → x.kind ≡ READING → book_after s book x ≡ book
-look_after s book x is = ap (λ k. cond (k == CALL) (answer s book x.number x.op).0 book) is
+look_after s book x is = ap (λ k. cond (k == CALL) (answer s book x.number x.op).0 (cond (k == REBASE) (rebase_answer x.number book).0 book)) is
 
-event_told : (s : Machine) (book : Records) (x : NdEvent) → length book ≡ length s.tasks → (x.kind ≡ CALL → x.op.kind ≢ MOVE) → IsOfBook s book x → (e : Event) × Tells x e × IsTrueOf s book e × (book_after s book x ≡ after s book e)
-event_told s book x same free (inl a) =
+event_told : (s : Machine) (book : Records) (x : NdEvent) → length book ≡ length s.tasks → x.kind ≢ REBASE → (x.kind ≡ CALL → x.op.kind ≢ MOVE) → IsOfBook s book x → (e : Event) × Tells x e × IsTrueOf s book e × (book_after s book x ≡ after s book e)
+event_told s book x same here free (inl a) =
     let plain = ne_eqb x.op.kind MOVE (free a.call) in
     let w = asked (length s.queues) (op_of x.op) (may_be s book x plain a.op) in
     let is = answer_is s book x w.0 a.task w.1 w.2 in (
@@ -118,7 +119,8 @@ event_told s book x same free (inl a) =
       (subst (λ n. x.number < n) same a.task, fits_is s w.0 w.2, refl),
       call_after s book x a.call ∙ ap (λ z. z.0) is,
     )
-event_told s book x same free (inr r) = (Look 0 x.number (reading_told x), (r.reading, refl, refl), (r.queue, r.sums), look_after s book x r.reading)
+event_told s book x same here free (inr (inr b)) = absurd (here b.rebase)
+event_told s book x same here free (inr (inl r)) = (Look 0 x.number (reading_told x), (r.reading, refl, refl), (r.queue, r.sums), look_after s book x r.reading)
 
 event_recorded : (s : Machine) (book : Records) (x : NdEvent) (e : Event) → length book ≡ length s.tasks → Tells x e → IsTrueOf s book e → IsOfBook s book x × (book_after s book x ≡ after s book e)
 event_recorded s book x (Call p t op reply) same tells is =
@@ -131,17 +133,17 @@ event_recorded s book x (Call p t op reply) same tells is =
       call_after s book x tells.0 ∙ ap (λ z. z.0) told ∙ ap (λ z. z.0) at,
     )
 event_recorded s book x (Look p r reading) same tells is = (
-  inr (record { reading = tells.0; queue = subst (λ n. n < length s.queues) (sym tells.1) is.0; sums = ap (reading_of book) tells.1 ∙ is.1 ∙ sym tells.2 }),
+  inr (inl (record { reading = tells.0; queue = subst (λ n. n < length s.queues) (sym tells.1) is.0; sums = ap (reading_of book) tells.1 ∙ is.1 ∙ sym tells.2 })),
   look_after s book x tells.0,
 )
 
-pub told : (s : Machine) (book : Records) (xs : List NdEvent) → length book ≡ length s.tasks → HasNoMoves xs → IsRecordedFrom s book xs
+pub told : (s : Machine) (book : Records) (xs : List NdEvent) → length book ≡ length s.tasks → HasStepsAlone xs → IsRecordedFrom s book xs
     → (h : List Event) × TellsAll xs h × IsLegalFrom s book h × (book_recorded s book xs ≡ fold (after s) book h)
 told s book [] same free is = ([], tt, tt, refl)
 told s book (x ∷ xs) same free is =
-    let one = event_told s book x same free.0 is.0 in
+    let one = event_told s book x same free.0 free.1 is.0 in
     let next : length (book_after s book x) ≡ length s.tasks = ap length one.3 ∙ after_length s book one.0 ∙ same in
-    let rest = told s (book_after s book x) xs next free.1 is.1 in
+    let rest = told s (book_after s book x) xs next free.2 is.1 in
     (one.0 ∷ rest.0, (one.1, rest.1), (one.2, subst (λ (b : Records). IsLegalFrom s b rest.0) one.3 rest.2), rest.3 ∙ ap (λ (b : Records). fold (after s) b rest.0) one.3)
 
 pub recorded : (s : Machine) (book : Records) (xs : List NdEvent) (h : List Event) → length book ≡ length s.tasks → TellsAll xs h → IsLegalFrom s book h → IsRecordedFrom s book xs

@@ -4,6 +4,7 @@ pub mod Memory
 pub mod Asked
 pub mod Move
 pub mod Answer
+pub mod Rebase
 pub mod Limits
 pub mod Opening
 pub mod Kernel

@@ -4,7 +4,8 @@ use Rattle.grub_book.specs.Machine.{Machine}
 use Rattle.grub_book.specs.Sums.{Records, reading_of}
 use Rattle.grub_book.specs.declared.event.Reading.{Reading}
 use Rattle.library_book.specs.Answer.{answer, is_op}
-use Rattle.library_book.specs.declared.checker.TheConstants.{CALL, READING}
+use Rattle.library_book.specs.Rebase.{rebase_answer}
+use Rattle.library_book.specs.declared.checker.TheConstants.{CALL, READING, REBASE}
 use Rattle.library_book.specs.declared.asked.NdEvent.{NdEvent}
 
 abbrev pub reading_told : NdEvent → Reading
@@ -23,13 +24,21 @@ pub record IsRead (s : Machine) (book : Records) (x : NdEvent) : Type 0 where
   pub queue : x.number < length s.queues
   pub sums : reading_of book x.number ≡ reading_told x
 
+-- a rebase by its number, which the book answers so
+pub record IsRebase (book : Records) (x : NdEvent) : Type 0 where
+  pub rebase : x.kind ≡ REBASE
+  pub reply : (rebase_answer x.number book).1 ≡ x.reply
+
 -- an event that is in range, and the book's
 abbrev pub IsOfBook : Machine → Records → NdEvent → Type 0
-IsOfBook s book x = IsAnswered s book x ⊎ IsRead s book x
+IsOfBook s book x = IsAnswered s book x ⊎ IsRead s book x ⊎ IsRebase book x
 
 -- the book after an event
 abbrev pub book_after : Machine → Records → NdEvent → Records
-book_after s book x = if x.kind == CALL then (answer s book x.number x.op).0 else book
+book_after s book x =
+    if x.kind == CALL then (answer s book x.number x.op).0
+    else (if x.kind == REBASE then (rebase_answer x.number book).0
+    else book)
 
 -- from these records on, each event is of the book after the events before it
 abbrev pub IsRecordedFrom : Machine → Records → List NdEvent → Type 0

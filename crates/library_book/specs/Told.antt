@@ -4,7 +4,7 @@ use Rattle.grub_book.specs.declared.event.Event.{Event}
 use Rattle.grub_book.specs.declared.event.Event.TheVariants.{Call, Look}
 use Rattle.library_book.specs.Asked.{op_of, reply_of}
 use Rattle.library_book.specs.Recorded.{reading_told}
-use Rattle.library_book.specs.declared.checker.TheConstants.{CALL, READING}
+use Rattle.library_book.specs.declared.checker.TheConstants.{CALL, READING, REBASE}
 use Rattle.library_book.specs.declared.asked.TheConstants.{MOVE}
 use Rattle.library_book.specs.declared.asked.NdEvent.{NdEvent}
 
@@ -20,7 +20,7 @@ TellsAll [] (e ∷ h) = ⊥
 TellsAll (x ∷ xs) [] = ⊥
 TellsAll (x ∷ xs) (e ∷ h) = Tells x e × TellsAll xs h
 
--- no call of a recorded history asks a move
-abbrev pub HasNoMoves : List NdEvent → Type 0
-HasNoMoves [] = ⊤
-HasNoMoves (x ∷ xs) = (x.kind ≡ CALL → x.op.kind ≢ MOVE) × HasNoMoves xs
+-- no event of a recorded history is a rebase, and no call asks a move
+abbrev pub HasStepsAlone : List NdEvent → Type 0
+HasStepsAlone [] = ⊤
+HasStepsAlone (x ∷ xs) = (x.kind ≢ REBASE) × (x.kind ≡ CALL → x.op.kind ≢ MOVE) × HasStepsAlone xs

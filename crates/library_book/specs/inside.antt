@@ -2,4 +2,5 @@
 pub mod Better
 pub mod Moves
 pub mod Ready
+pub mod Rebasing
 pub mod Sums

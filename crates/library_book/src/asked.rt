@@ -21,7 +21,7 @@ pub struct NdOp {
 #[repr(C)]
 #[derive(Clone, Copy, Debug, PartialEq, Eq)]
 pub struct NdReply {
-    /// Which reply: from 101 on granted, 9 to 21 refused by the book, 70 no such task, 71 no such op, 72 no book.
+    /// Which reply: from 101 on granted, 9 to 21 refused by the book, 70 no such task, 71 no such op, 72 no book, 74 a rebase too far.
     pub kind: u32,
 
     /// The ticket of a block that waits, the runqueue that a leave or a move left, that of the refusals 11 and 12, or how often a charge
@@ -46,17 +46,17 @@ pub struct NdAsk {
     pub op: NdOp,
 }
 
-/// An event of a recorded history: a call with its reply, or a reading.
+/// An event of a recorded history: a call with its reply, a reading, or a rebase with its reply.
 #[repr(C)]
 #[derive(Clone, Copy, Debug, PartialEq, Eq)]
 pub struct NdEvent {
-    /// 1 a call, 2 a reading.
+    /// 1 a call, 2 a reading, 3 a rebase.
     pub kind: u32,
 
     /// Who called or read. It is not looked at.
     pub pass: u32,
 
-    /// The task of a call, the runqueue of a reading.
+    /// The task of a call, the runqueue of a reading, by how much a rebase moves the origin.
     pub number: u32,
 
     /// What a call asked.
@@ -66,6 +66,6 @@ pub struct NdEvent {
     pub running_bw: u32,
     pub this_bw: u32,
 
-    /// What a call was answered.
+    /// What a call or a rebase was answered.
     pub reply: NdReply,
 }

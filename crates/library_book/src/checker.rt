@@ -3,12 +3,13 @@
 ghost use Rattle.std.specs.Prelude.{◌≡◌, ◌+◌, ◌<◌, ◌≤◌, false, length, take, IsTrue};
 ghost use Rattle.grub_book.specs.Machine.{Machine};
 ghost use Rattle.library_book.specs.Memory.{records_of, IsBook};
-ghost use Rattle.library_book.specs.Recorded.{IsAnswered, IsRead, IsOfBook, IsRecordedFrom, book_after, book_recorded};
+ghost use Rattle.library_book.specs.Recorded.{IsAnswered, IsRead, IsRebase, IsOfBook, IsRecordedFrom, book_after, book_recorded};
 
 use crate::asked::NdEvent;
 use crate::calls::may_ask;
 use crate::foreseen::foreseen;
 use crate::memory::{NdRunqueue, NdTask};
+use crate::rebasing::{foreseen_rebase, rebase};
 use crate::steps::apply;
 
 /// The kind of an event that is a call.
@@ -17,9 +18,12 @@ pub const CALL: u32 = 1;
 /// The kind of an event that is a reading.
 pub const READING: u32 = 2;
 
+/// The kind of an event that is a rebase.
+pub const REBASE: u32 = 3;
+
 /// How many events of a recorded history the book in this memory gives: the index of the first that is out of range or is
 /// not what the book replies or reads, else their number. The memory becomes the book after the events that are counted;
-/// the call at that index is not made.
+/// the call or rebase at that index is not made.
 pub fn check(tasks: &mut [NdTask], queues: &mut [NdRunqueue], events: &[NdEvent]) -> usize
     ensures within { result ≤ length events.now }
     ensures legal { (s : Machine) → IsBook s tasks.old queues.old
@@ -54,6 +58,10 @@ fn follows(tasks: &mut [NdTask], queues: &mut [NdRunqueue], event: &NdEvent) -> 
         apply(tasks, queues, event.number, event.op);
         return true;
     }
+    if event.kind == REBASE && rebases(tasks, queues, event) {
+        rebase(tasks, queues, event.number);
+        return true;
+    }
     event.kind == READING && reads(tasks, queues, event)
 }
 
@@ -69,6 +77,18 @@ fn answers(tasks: &[NdTask], queues: &[NdRunqueue], event: &NdEvent) -> bool
         return false;
     }
     foreseen(tasks, queues, event.number, event.op) == event.reply
+}
+
+/// Whether the book would answer a rebase so.
+fn rebases(tasks: &[NdTask], queues: &[NdRunqueue], event: &NdEvent) -> bool
+    requires { event.now.kind ≡ REBASE }
+    ensures yes { (s : Machine) → IsBook s tasks.now queues.now → IsTrue result
+        → IsRebase (records_of tasks.now) event.now }
+    ensures no { (s : Machine) → IsBook s tasks.now queues.now → result ≡ false
+        → ¬ IsRebase (records_of tasks.now) event.now }
+{
+    let _ = queues;
+    foreseen_rebase(tasks, event.number) == event.reply
 }
 
 /// Whether the runqueue of a reading is there, and has these sums.

@@ -68,3 +68,6 @@ pub const NO_OP: u32 = 71;
 
 /// The memory is no book.
 pub const DAMAGED: u32 = 72;
+
+/// A contending task's deadline, or a waiting task's 0-lag time, is before the new origin.
+pub const TOO_FAR: u32 = 74;

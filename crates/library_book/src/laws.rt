@@ -7,7 +7,7 @@ ghost use Rattle.grub_book.specs.Sums.{Records, record_at, reading_of, running_o
 ghost use Rattle.grub_book.specs.History.{IsLegalFrom, after};
 ghost use Rattle.grub_book.specs.declared.event.Event.{Event};
 ghost use Rattle.library_book.specs.Recorded.{IsRecordedFrom, book_recorded};
-ghost use Rattle.library_book.specs.Told.{TellsAll, HasNoMoves};
+ghost use Rattle.library_book.specs.Told.{TellsAll, HasStepsAlone};
 ghost use Rattle.library_book.specs.declared.asked.NdEvent.{NdEvent};
 ghost use Rattle.library_book.specs.Move.{IsMovable, move_step, moved_to, reply_from};
 
@@ -30,11 +30,11 @@ pub fn moves_shift_sums()
         → reading_of (move_step s book t r).0 k ≡ reading_of book k }
 {}
 
-/// A recorded history without moves is the book's exactly where it tells a legal history of `grub_book`, and the book after
+/// A recorded history without moves and rebases is the book's exactly where it tells a legal history of `grub_book`, and the book after
 /// it is the same.
 pub fn histories_are_the_books()
     ensures told { (s : Machine) (book : Records) (xs : List NdEvent) → length book ≡ length s.tasks
-        → HasNoMoves xs → IsRecordedFrom s book xs
+        → HasStepsAlone xs → IsRecordedFrom s book xs
         → (h : List Event) × TellsAll xs h × IsLegalFrom s book h
         × (book_recorded s book xs ≡ fold (after s) book h) }
     ensures recorded { (s : Machine) (book : Records) (xs : List NdEvent) (h : List Event)

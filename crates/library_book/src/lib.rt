@@ -26,6 +26,7 @@ mod memory;
 mod moving;
 mod numbers;
 mod opening;
+mod rebasing;
 mod records;
 mod steps;
 
@@ -34,11 +35,11 @@ pub use asked::{MOVE, NdAsk, NdEvent, NdOp, NdReply};
 pub use auditor::audit;
 pub use batch::apply_all;
 pub use calls::{op_of, plain_reply, reply_of};
-pub use checker::{CALL, READING, check};
+pub use checker::{CALL, READING, REBASE, check};
 pub use codes::{
     BUDGET_OUT_OF_RANGE, COUNT_OUT_OF_RANGE, DAMAGED, DEADLINE_OVERFLOW, DONE, MOMENT_OUT_OF_RANGE,
     NO_OP, NO_QUEUE, NO_TASK, NOBODY, OVERFULL, PERIOD_OUT_OF_RANGE, QUEUE_OUT_OF_RANGE,
-    RUNNING_OUT_OF_RANGE, RUNTIME_OUT_OF_RANGE, STATE_OUT_OF_RANGE, TOO_MANY_QUEUES,
+    RUNNING_OUT_OF_RANGE, RUNTIME_OUT_OF_RANGE, STATE_OUT_OF_RANGE, TOO_FAR, TOO_MANY_QUEUES,
     TOO_MANY_TASKS, TOO_SMALL, UEXTRA_OUT_OF_RANGE, UMAX_OUT_OF_RANGE, WRONG_RUNNING_BW,
     WRONG_THIS_BW,
 };
@@ -51,5 +52,6 @@ pub use memory::{FLAT_QUEUES_MAX, FLAT_TASKS_MAX, NdRunqueue, NdTask};
 pub use moving::MOVED;
 pub use numbers::{NdCapacity, NdParams, NdReading, NdServer, capacity_fault, params_fault};
 pub use opening::{fault_of_queues, fault_of_tasks, open_book};
+pub use rebasing::{REBASED, rebase, rebase_limit};
 pub use records::task_of;
 pub use steps::apply;

@@ -67,7 +67,7 @@ pub extern "C" fn nd_audit_fault(tasks: &[NdTask], queues: &[NdRunqueue], number
 
 /// How many events of a recorded history the book in this memory gives: the index of the first that is out of range or is
 /// not what the book replies or reads, else their number. The memory becomes the book after the events that are counted; the
-/// call at that index is not made.
+/// call or rebase at that index is not made.
 #[unsafe(no_mangle)]
 pub extern "C" fn nd_check(
     tasks: &mut [NdTask],
