@@ -299,19 +299,19 @@ pub record IsEarlier (by : ℕ) (counts : ℕ → ℕ) (book other : Records) : 
 abbrev nobody : Record
 nobody = record { place = Gone; count = 0; params = record { runtime = 0; period = 0 }; server = record { q = 0; d = 0 } }
 
-op_fits : (s : Machine) (by f : ℕ) (op : Op) → IsOp s op → IsOp s (op_earlier by f op)
-op_fits s by f (Join r m) fits = (fits.0, let most = fits.1 in omega (arith, most))
-op_fits s by f (Wake r m) fits = (fits.0, let most = fits.1 in omega (arith, most))
-op_fits s by f (Block r m) fits = (fits.0, let most = fits.1 in omega (arith, most))
-op_fits s by f Leave fits = fits
-op_fits s by f (Timer ticket m) fits = omega (arith, fits)
-op_fits s by f Exit fits = fits
-op_fits s by f (Charge r dt) fits = fits
-op_fits s by f (Retune q p) fits = fits
+pub fits_earlier : (s : Machine) (by f : ℕ) (op : Op) → IsOp s op → IsOp s (op_earlier by f op)
+fits_earlier s by f (Join r m) fits = (fits.0, let most = fits.1 in omega (arith, most))
+fits_earlier s by f (Wake r m) fits = (fits.0, let most = fits.1 in omega (arith, most))
+fits_earlier s by f (Block r m) fits = (fits.0, let most = fits.1 in omega (arith, most))
+fits_earlier s by f Leave fits = fits
+fits_earlier s by f (Timer ticket m) fits = omega (arith, fits)
+fits_earlier s by f Exit fits = fits
+fits_earlier s by f (Charge r dt) fits = fits
+fits_earlier s by f (Retune q p) fits = fits
 
 module _ (s : Machine) (by : ℕ) (counts : ℕ → ℕ) where
   -- one task's new record in both
-  set_earlier : (book other : Records) (t : ℕ) (y : Record) → IsEarlier by counts book other → t < length book → IsAhead by (counts t) y → IsEarlier by counts (set book t y) (set other t (earlier by (counts t) y))
+  pub set_earlier : (book other : Records) (t : ℕ) (y : Record) → IsEarlier by counts book other → t < length book → IsAhead by (counts t) y → IsEarlier by counts (set book t y) (set other t (earlier by (counts t) y))
   set_earlier book other t y is here ahead =
       let z = earlier by (counts t) y in
       let there : t < length other = let same = is.as_many in omega (arith, here, same) in
@@ -389,7 +389,7 @@ module _ (s : Machine) (by : ℕ) (counts : ℕ → ℕ) where
       let lasting : IsLasting (step s book t op).1 = subst IsLasting (sym legal.0.2) since.0.1 in
       let one = goes book other sound is t legal.0.0 op since.0.0 lasting in
       let rest = goes_on (step s book t op).0 (step s other t (op_earlier by (counts t) op)).0 h (sound_step s book t op sound legal.0.0 legal.0.1) one.1 legal.1 since.1 in
-      (((legal.0.0, op_fits s by (counts t) op legal.0.1, one.0 ∙ ap (reply_earlier by (counts t)) legal.0.2), rest.0), rest.1)
+      (((legal.0.0, fits_earlier s by (counts t) op legal.0.1, one.0 ∙ ap (reply_earlier by (counts t)) legal.0.2), rest.0), rest.1)
   goes_on book other (Look pass r reading ∷ h) sound is legal since =
       let rest = goes_on book other h sound is legal.1 since.1 in
       (((legal.0.0, is.readings r ∙ legal.0.1), rest.0), rest.1)

@@ -9,4 +9,5 @@ pub mod Rebases
 pub mod Asking
 pub mod Replaying
 pub mod Telling
+pub mod Going
 pub mod Auditing

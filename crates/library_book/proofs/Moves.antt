@@ -28,7 +28,7 @@ use Rattle.library_book.specs.declared.memory.NdTask.{NdTask}
 use Rattle.library_book.specs.declared.memory.NdRunqueue.{NdRunqueue}
 use Rattle.library_book.proofs.Stepping.{in_records, record_is, queue_count, task, states_set}
 
-some_same : (a b : Reply) → Some a ≡ Some b → a ≡ b
+pub some_same : (a b : Reply) → Some a ≡ Some b → a ≡ b
 some_same a b e = cc
 
 free_test : (b : Bool) (r from : ℕ) (state : State) → (from == r) ≡ b → cond b (Some (AlreadyOn from)) (refused_charge state) ≡ None → (at : ℕ) × (On from state ≡ On at Contending) × (at ≢ r)

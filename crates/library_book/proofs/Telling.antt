@@ -23,7 +23,7 @@ use Rattle.library_book.specs.declared.codes.TheConstants.{NO_TASK, NO_OP}
 use Rattle.grub_book.specs.declared.place.Record.{Record}
 use Rattle.library_book.specs.declared.asked.NdEvent.{NdEvent}
 
-both : (a b : Bool) → (a && b) ≡ true → (a ≡ true) × (b ≡ true)
+pub both : (a b : Bool) → (a && b) ≡ true → (a ≡ true) × (b ≡ true)
 both true true h = (refl, refl)
 both true false h = absurd cc
 both false b h = absurd cc
@@ -31,7 +31,7 @@ both false b h = absurd cc
 either : (a b : Bool) → a ≡ true → b ≡ true → (a && b) ≡ true
 either a b h g = rw (h, g) refl
 
-fits_is : (s : Machine) (op : Op) → op_fits (length s.queues) op ≡ true → IsOp s op
+pub fits_is : (s : Machine) (op : Op) → op_fits (length s.queues) op ≡ true → IsOp s op
 fits_is s (Join r m) h = let p = both (nat_lt r (length s.queues)) (nat_le m 2147483647) h in (ltb-true r (length s.queues) p.0, leb-true m 2147483647 p.1)
 fits_is s (Wake r m) h = let p = both (nat_lt r (length s.queues)) (nat_le m 2147483647) h in (ltb-true r (length s.queues) p.0, leb-true m 2147483647 p.1)
 fits_is s (Block r m) h = let p = both (nat_lt r (length s.queues)) (nat_le m 2147483647) h in (ltb-true r (length s.queues) p.0, leb-true m 2147483647 p.1)
@@ -50,7 +50,7 @@ fits_is s (Retune q p) h =
     let b = both (nat_le 1 p) (nat_le p 16777216) c.0 in
     record { period = (leb-true 1 p b.0, leb-true p 16777216 b.1); runtime = (leb-true 1 q c.1, leb-true q p d.1); bandwidth = leb-true 1 bw e.1 }
 
-is_fits : (s : Machine) (op : Op) → IsOp s op → op_fits (length s.queues) op ≡ true
+pub is_fits : (s : Machine) (op : Op) → IsOp s op → op_fits (length s.queues) op ≡ true
 is_fits s (Join r m) h = either _ _ (lt-ltb r (length s.queues) h.0) (le-leb m 2147483647 h.1)
 is_fits s (Wake r m) h = either _ _ (lt-ltb r (length s.queues) h.0) (le-leb m 2147483647 h.1)
 is_fits s (Block r m) h = either _ _ (lt-ltb r (length s.queues) h.0) (le-leb m 2147483647 h.1)
@@ -78,12 +78,12 @@ after_length : (s : Machine) (book : Records) (e : Event) → length (after s bo
 after_length s book (Call p t op reply) = step_length s book t op
 after_length s book (Look p r reading) = refl
 
-asked : (queues : ℕ) (o : Option Op) → may_ask queues o ≡ true → (it : Op) × (o ≡ Some it) × (op_fits queues it ≡ true)
+pub asked : (queues : ℕ) (o : Option Op) → may_ask queues o ≡ true → (it : Op) × (o ≡ Some it) × (op_fits queues it ≡ true)
 asked queues None h = absurd cc
 asked queues (Some it) h = (it, refl, h)
 
 -- an op of the book may be asked, and what may be asked is one, where it is no move
-step_or_move : (a b c : Bool) → b ≡ false → (a || (b && c)) ≡ true → a ≡ true
+pub step_or_move : (a b c : Bool) → b ≡ false → (a || (b && c)) ≡ true → a ≡ true
 step_or_move true b c plain h = refl
 step_or_move false true c plain h = absurd cc
 step_or_move false false c plain h = absurd cc
@@ -92,21 +92,21 @@ module _ (s : Machine) (book : Records) (x : NdEvent) where
   abbrev q : ℕ
   q = length s.queues
 
-  may_be : (x.op.kind == MOVE) ≡ false → is_op q x.op ≡ true → may_ask q (op_of x.op) ≡ true
+  pub may_be : (x.op.kind == MOVE) ≡ false → is_op q x.op ≡ true → may_ask q (op_of x.op) ≡ true
   may_be plain h = step_or_move (may_ask q (op_of x.op)) (x.op.kind == MOVE) (nat_lt x.op.a q) plain h
 
-  is_asked : may_ask q (op_of x.op) ≡ true → is_op q x.op ≡ true
+  pub is_asked : may_ask q (op_of x.op) ≡ true → is_op q x.op ≡ true
   is_asked h = ap (λ b. b || is_move q x.op) h
 
-  answer_is : (it : Op) → x.number < length book → op_of x.op ≡ Some it → op_fits q it ≡ true → answer s book x.number x.op ≡ stepped s book x.number it
+  pub answer_is : (it : Op) → x.number < length book → op_of x.op ≡ Some it → op_fits q it ≡ true → answer s book x.number x.op ≡ stepped s book x.number it
   answer_is it there op fits =
       ap (λ b. cond b (answer_to s book x.number x.op (op_of x.op)) (declined book NO_TASK)) (lt-ltb x.number (length book) there)
       ∙ ap (answer_to s book x.number x.op) op ∙ ap (λ b. cond b (stepped s book x.number it) (declined book NO_OP)) fits
 
-call_after : (s : Machine) (book : Records) (x : NdEvent) → x.kind ≡ CALL → book_after s book x ≡ (answer s book x.number x.op).0
+pub call_after : (s : Machine) (book : Records) (x : NdEvent) → x.kind ≡ CALL → book_after s book x ≡ (answer s book x.number x.op).0
 call_after s book x is = ap (λ b. cond b (answer s book x.number x.op).0 (cond (x.kind == REBASE) (rebase_answer x.number book).0 book)) (eq-eqb x.kind CALL is)
 
-look_after : (s : Machine) (book : Records) (x : NdEvent) → x.kind ≡ READING → book_after s book x ≡ book
+pub look_after : (s : Machine) (book : Records) (x : NdEvent) → x.kind ≡ READING → book_after s book x ≡ book
 look_after s book x is = ap (λ k. cond (k == CALL) (answer s book x.number x.op).0 (cond (k == REBASE) (rebase_answer x.number book).0 book)) is
 
 event_told : (s : Machine) (book : Records) (x : NdEvent) → length book ≡ length s.tasks → x.kind ≢ REBASE → (x.kind ≡ CALL → x.op.kind ≢ MOVE) → IsOfBook s book x → (e : Event) × Tells x e × IsTrueOf s book e × (book_after s book x ≡ after s book e)

@@ -11,6 +11,7 @@ pub mod Kernel
 pub mod Batch
 pub mod Recorded
 pub mod Told
+pub mod Earlier
 pub mod Audit
 pub mod Located
 pub mod Exhaustion

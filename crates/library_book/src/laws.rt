@@ -1,12 +1,16 @@
 //! Laws of the definitions.
 
-ghost use Rattle.std.specs.Prelude.{◌≡◌, ◌≢◌, ℕ, ◌+◌, ◌<◌, List, length, fold, slice_set};
+ghost use Rattle.std.specs.Prelude.{◌≡◌, ◌≢◌, ℕ, ◌+◌, ◌<◌, None, List, length, fold, slice_set};
 ghost use Rattle.grub_book.specs.Bandwidth.{bandwidth_of};
 ghost use Rattle.grub_book.specs.Machine.{Machine};
 ghost use Rattle.grub_book.specs.Sums.{Records, record_at, reading_of, running_of, this_of};
+ghost use Rattle.grub_book.specs.Sound.{IsSound};
+ghost use Rattle.grub_book.specs.Rebase.{first_held, book_rebased};
+ghost use Rattle.grub_book.specs.Earlier.{forgotten_of};
 ghost use Rattle.grub_book.specs.History.{IsLegalFrom, after};
 ghost use Rattle.grub_book.specs.declared.event.Event.{Event};
 ghost use Rattle.library_book.specs.Recorded.{IsRecordedFrom, book_recorded};
+ghost use Rattle.library_book.specs.Earlier.{AreRecordedSince, history_earlier};
 ghost use Rattle.library_book.specs.Told.{TellsAll, HasStepsAlone};
 ghost use Rattle.library_book.specs.declared.asked.NdEvent.{NdEvent};
 ghost use Rattle.library_book.specs.Move.{IsMovable, move_step, moved_to, reply_from};
@@ -40,4 +44,15 @@ pub fn histories_are_the_books()
     ensures recorded { (s : Machine) (book : Records) (xs : List NdEvent) (h : List Event)
         → length book ≡ length s.tasks → TellsAll xs h → IsLegalFrom s book h
         → IsRecordedFrom s book xs }
+{}
+
+/// A recorded history goes on over a book whose origin of time was moved as it would have, with moves of tasks too. Let it be the book's,
+/// at moments from the new origin on, with timers whose tickets were given since, or are a waiting task's own. Told with
+/// moments, deadlines and 0-lag times less by as much, and with tickets less by the count that was forgotten, it is the
+/// rebased book's. The refusals 17 and 21 come later than they would have.
+pub fn rebased_histories_go_on()
+    ensures { (s : Machine) (book : Records) (by : ℕ) (xs : List NdEvent) → IsSound s book
+        → first_held by book ≡ None → IsRecordedFrom s book xs
+        → AreRecordedSince by (forgotten_of book) xs
+        → IsRecordedFrom s (book_rebased by book) (history_earlier by (forgotten_of book) xs) }
 {}

@@ -46,7 +46,7 @@ pub use codes::{
 pub use exhaustion::exhaustion_of;
 pub use first::{Wanted, first_on};
 pub use kernel::kernel_charge;
-pub use laws::{histories_are_the_books, moves_shift_sums};
+pub use laws::{histories_are_the_books, moves_shift_sums, rebased_histories_go_on};
 pub use located::{located_fault, open_fault};
 pub use memory::{FLAT_QUEUES_MAX, FLAT_TASKS_MAX, NdRunqueue, NdTask};
 pub use moving::MOVED;
