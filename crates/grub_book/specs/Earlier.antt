@@ -32,7 +32,7 @@ abbrev pub event_earlier : ℕ → (ℕ → ℕ) → Event → Event
 event_earlier by counts (Call pass task op reply) = Call pass task (op_earlier by (counts task) op) (reply_earlier by (counts task) reply)
 event_earlier by counts (Look pass queue reading) = Look pass queue reading
 
--- at the moment by or later, and with a ticket that was given since, or that of a task that waits, of which no count is forgotten
+-- At the moment by or later. A ticket is no less than the count that is forgotten: those given since are more, and of a task that waits none is forgotten.
 abbrev pub IsSince : ℕ → ℕ → Op → Type 0
 IsSince by count (Join r m) = by ≤ m
 IsSince by count (Wake r m) = by ≤ m
@@ -40,7 +40,7 @@ IsSince by count (Block r m) = by ≤ m
 IsSince by count (Timer ticket m) = (count ≤ ticket) × (by ≤ m)
 IsSince by count op = ⊤
 
--- not a reply that comes later once the origin was moved
+-- not a reply that may come later once the origin was moved
 abbrev pub IsLasting : Reply → Type 0
 IsLasting Worn = ⊥
 IsLasting DeadlineOverflow = ⊥

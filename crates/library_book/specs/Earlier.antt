@@ -25,7 +25,7 @@ reply_earlier by count reply =
 abbrev pub event_earlier : ℕ → (ℕ → ℕ) → NdEvent → NdEvent
 event_earlier by counts x = record x { op = op_earlier by (counts x.number) x.op; reply = reply_earlier by (counts x.number) x.reply }
 
--- no other rebase; and a call is at the moment by or later, with a ticket that was given since or is a waiting task's own, and with no reply that comes later
+-- No other rebase. A call is at the moment by or later, with a ticket no less than the count that is forgotten, and its reply is not one that may come later.
 pub record IsRecordedSince (by : ℕ) (counts : ℕ → ℕ) (x : NdEvent) : Type 0 where
   pub alone : x.kind ≢ REBASE
   pub since : x.kind ≡ CALL → IfSome (op_of x.op) (λ op. IsSince by (counts x.number) op)

@@ -34,8 +34,8 @@ pub fn moves_shift_sums()
         → reading_of (move_step s book t r).0 k ≡ reading_of book k }
 {}
 
-/// A recorded history without moves and rebases is the book's exactly where it tells a legal history of `grub_book`, and the book after
-/// it is the same.
+/// A recorded history without moves and rebases is the book's exactly where it tells a legal history of `grub_book`, and the
+/// book after it is the same.
 pub fn histories_are_the_books()
     ensures told { (s : Machine) (book : Records) (xs : List NdEvent) → length book ≡ length s.tasks
         → HasStepsAlone xs → IsRecordedFrom s book xs
@@ -46,10 +46,10 @@ pub fn histories_are_the_books()
         → IsRecordedFrom s book xs }
 {}
 
-/// A recorded history goes on over a book whose origin of time was moved as it would have, with moves of tasks too. Let it be the book's,
-/// at moments from the new origin on, with timers whose tickets were given since, or are a waiting task's own. Told with
-/// moments, deadlines and 0-lag times less by as much, and with tickets less by the count that was forgotten, it is the
-/// rebased book's. The refusals 17 and 21 come later than they would have.
+/// A recorded history goes on over a book whose origin of time was moved as it would have, moves of tasks too. Let it be the
+/// book's, at moments from the new origin on, with timers whose tickets were given since, or are a waiting task's own. Its
+/// moments, deadlines and 0-lag times become less by as much, and its tickets by the count that was forgotten. So it is
+/// the rebased book's. The refusals 17 and 21 are left out, which may come later there.
 pub fn rebased_histories_go_on()
     ensures { (s : Machine) (book : Records) (by : ℕ) (xs : List NdEvent) → IsSound s book
         → first_held by book ≡ None → IsRecordedFrom s book xs
