@@ -14,6 +14,8 @@ ROOT = os.path.dirname(os.path.dirname(os.path.abspath(__file__)))
 OPS = ("JOIN", "WAKE", "BLOCK", "LEAVE", "TIMER", "EXIT", "CHARGE", "RETUNE", "MOVE")
 NUMBER = r"pub const (?:FLAT_)?(\w+): \w+ = (\d+);"
 EXPORT = r'extern "C" fn (\w+)\((.*?)\)(?: -> (\w+))?(?: \{)?\n'
+# How many calls a header has, inline ones too.
+HELD = {"neddwyrol.h": 33, "neddwyrol_table.h": 27}
 OF_C = {"uint8_t": "u8", "uint32_t": "u32", "uint64_t": "u64", "int64_t": "i64", "size_t": "usize", "void": "u8"}
 
 
@@ -74,8 +76,26 @@ def header(name):
         return f"*{const or 'mut '}{plain}" if star else "()" if word == "void" else plain
 
     structs = {kind(it): [(field, kind(of)) for of, field in all_of(r"(\w+ \*?)(\w+);", body)] for body, it in all_of(r"typedef struct \{(.*?)\} (\w+);", text)}
-    calls = {it: ([kind(re.sub(r"\w+\s*$", "", a)) for a in given.split(",") if a != "void"], kind(of)) for of, it, given in all_of(r"^(\w+) (nd_\w+)\((.*?)\);", text)}
+    calls = {it: ([kind(re.sub(r"\w+\s*$", "", a)) for a in given.split(",") if a != "void"], kind(of)) for of, it, given in all_of(r"^(?:ND_MUST_USE )?(\w+) (nd_\w+)\((.*?)\);", text)}
     return {it: fields for it, fields in structs.items() if it != "Book"}, calls, numbers_of(r"ND_(\w+) (?:= )?(\d+)", text)
+
+
+def dropped(name):
+    """The calls of a header, inline ones too, that answer what a caller may pass over without a warning, or are warned of in vain."""
+    calls = all_of(r"^(ND_MUST_USE )?(?:static inline )?(?:const )?(\w+) (\*?nd_\w+)\([^;{]*?\)(?:;| \{)", text_of("bindings/include", name))
+    return len(calls), [call.lstrip("*") for is_marked, kind, call in calls if bool(is_marked) == (kind == "void")]
+
+
+def misplaced(name):
+    """The calls of a header whose arguments are not in its one order: the book or pass, the task, the runqueue or ticket, the moment or
+    run, and then what is written."""
+    order = [("book", "tasks", "pass"), ("task",), ("queue", "ticket"), ("moment", "run")]
+    faults = []
+    for call, given in all_of(r"^ND_MUST_USE (?:static inline )?\w+ (nd_\w+)\((.*?)\)[;\s]", text_of("bindings/include", name)):
+        names = [it.split()[-1].lstrip("*") for it in given.split(",") if not re.search(r"_t \*\w+$", it)]
+        places = [at for it in names for at, alike in enumerate(order) if it in alike]
+        faults += [call] * (places != sorted(places) and places[0] == 0)
+    return faults
 
 
 def crate(folder):
@@ -128,6 +148,11 @@ def main(words):
     ):
         for wanted, found in zip(want, got):
             faults += [f"{where}: the source has {it} as {wanted.get(it)}, and here it is {found.get(it)}" for it in {**wanted, **found} if wanted.get(it) != found.get(it)]
+    for it in ("neddwyrol.h", "neddwyrol_table.h"):
+        count, named_so = dropped(it)
+        faults += [f"{it}: the calls were not read: {count}"] * (count != HELD[it])
+        faults += [f"{it}: {call} answers, and has no ND_MUST_USE, or has it and answers nothing" for call in named_so]
+        faults += [f"{it}: the arguments of {call} are in another order" for call in misplaced(it)]
     # (what is asked or answered: not the limits, the states, and the kinds of ops and events)
     others = {"ABI", "VERSION", "UNIT", "QUEUES_MAX", "TASKS_MAX", "AWAY", "CONTENDING", "NON_CONTENDING", "INACTIVE", "GONE_FOR_GOOD", "CALL", "READING"}
     others |= {it for it, number in numbers.items() if 1 <= number <= 9 and it in OPS}

@@ -28,6 +28,15 @@ ran() {
     tried "$1" "$2" "$work/program"
 }
 
+# warns COMPILER..: it compiles a call whose reply is looked at, and refuses each whose reply is dropped.
+warns() {
+    local it
+    for it in 'if (!nd_granted(nd_join(book, 0, 0, 0))) *all = *all' 'nd_join(book, 0, 0, 0)' 'nd_open(book->tasks, 0, book->queues, 0)' 'nd_meet(all, all)'; do
+        printf '#include <neddwyrol_table.h>\nvoid drops(nd_book *book, nd_pass *all);\nvoid drops(nd_book *book, nd_pass *all) { %s; (void)book, (void)all; }\n' "$it" > "$work/drops.c"
+        if "$@" -c -o "$work/drops.o" "$work/drops.c"; then [[ $it == if* ]]; else [[ $it != if* ]]; fi || return 1
+    done
+}
+
 # joined PREFIX TABLE HEAP TO: the shared table with its few lines over malloc as one object, of which a program sees no names but nd_*.
 joined() {
     "$1ld" -r -o "$work/table.o" --whole-archive "$2" --no-whole-archive "$3" && "$1objcopy" --wildcard --keep-global-symbol='nd_*' "$work/table.o" &&
@@ -72,6 +81,12 @@ fi
 # and from Rust the crates' tests and random ops beside plain Rust.
 tried 'the declarations' - python3 bindings/declarations.py "$made/libneddwyrol.so"
 checked=(-O2 -Wall -Wextra -Werror -I bindings/include)
+for compiler in gcc clang; do
+    ! command -v "$compiler" > /dev/null || tried "$compiler warns of a dropped reply" - warns "$compiler" -std=c11 -pedantic "${checked[@]}"
+done
+for compiler in g++ clang++; do
+    ! command -v "$compiler" > /dev/null || tried "$compiler warns of a dropped reply" - warns "$compiler" -std=c++17 "${checked[@]}" -x c++
+done
 export CARGO_TARGET_DIR=$made/cargo CARGO_NET_OFFLINE=true
 for it in llvm rattle; do
     export NEDDWYROL_LIB=$made/$it

@@ -2,6 +2,7 @@
 #include "neddwyrol.h"
 #include <inttypes.h>
 #include <stdio.h>
+#include <stdlib.h>
 #include <string.h>
 
 static void show(const char *what, const nd_book *book) {
@@ -9,6 +10,15 @@ static void show(const char *what, const nd_book *book) {
     for (size_t r = 0; r < book->queue_count; r++)
         printf(" %" PRIu32 "/%" PRIu32, book->queues[r].running_bw, book->queues[r].this_bw);
     printf("; audit %" PRIu32 "\n", nd_audit(book->tasks, book->task_count, book->queues, book->queue_count));
+}
+
+/* The reply of an op, which has to be granted. */
+static nd_reply granted(nd_reply reply) {
+    if (!nd_granted(reply)) {
+        fprintf(stderr, "refused: %s\n", nd_strerror(reply.kind));
+        exit(1);
+    }
+    return reply;
 }
 
 int main(void) {
@@ -28,9 +38,9 @@ int main(void) {
 
     memcpy(saved, tasks, sizeof tasks);
     memcpy(sums, queues, sizeof queues);
-    nd_block(&book, 0, 0, 0);
-    printf("blocked, and left runqueue %" PRIu32 "\n", nd_leave(&book, 0).number);
-    nd_reply joined = nd_join(&book, 0, 1, 3);
+    granted(nd_block(&book, 0, 0, 0));
+    printf("blocked, and left runqueue %" PRIu32 "\n", granted(nd_leave(&book, 0)).number);
+    nd_reply joined = granted(nd_join(&book, 0, 1, 3));
     printf("joined with budget %" PRIu32 " and deadline %" PRIu32 "\n", joined.budget, joined.deadline);
     show("one moved", &book);
     printf("retuned while active: %" PRIu32 "\n", nd_retune(&book, 0, 2, 8).kind);
@@ -40,15 +50,15 @@ int main(void) {
     printf("earliest %s", nd_strerror(nd_earliest(tasks, 3, 1, &t, &moment)));
     printf(": task %" PRIu32 ", deadline %" PRIu32, t, moment);
     printf("; next timer %s\n", nd_strerror(nd_next_timer(tasks, 3, 1, &t, &moment)));
-    nd_reply move = nd_move(&book, 1, 1);
+    nd_reply move = granted(nd_move(&book, 1, 1));
     printf("moved: %s from runqueue %" PRIu32 " with budget %" PRIu32 " and deadline %" PRIu32 "\n", nd_strerror(move.kind), move.number, tasks[1].budget, tasks[1].deadline);
     printf("again: %s %" PRIu32, nd_strerror(nd_move(&book, 1, 1).kind), nd_move(&book, 1, 1).number);
     printf("; to no runqueue: %s", nd_strerror(nd_move(&book, 1, 2).kind));
     printf("; no such task: %s", nd_strerror(nd_move(&book, 3, 0).kind));
-    nd_join(&book, 2, 0, 3);
+    granted(nd_join(&book, 2, 0, 3));
     printf("; full: %s", nd_strerror(nd_move(&book, 2, 1).kind));
-    nd_run(&book, 1, 1, 2);
-    nd_block(&book, 1, 1, 1);
+    granted(nd_run(&book, 1, 1, 2));
+    granted(nd_block(&book, 1, 1, 1));
     printf("; not ready: %s", nd_strerror(nd_move(&book, 1, 0).kind));
     printf("; next timer %s", nd_strerror(nd_next_timer(tasks, 3, 1, &t, &moment)));
     printf(" of task %" PRIu32 " at %" PRIu32 ", ticket %" PRIu32 "\n", t, moment, tasks[t].count);

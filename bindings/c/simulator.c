@@ -5,6 +5,7 @@
 #include "neddwyrol.h"
 #include <inttypes.h>
 #include <stdio.h>
+#include <stdlib.h>
 
 enum { TASKS = 5, QUEUES = 2, END = 48000, EVENTS = 4096 };
 
@@ -16,19 +17,25 @@ static uint32_t left[TASKS] = {1500, 2500, 9000, 3500, 6000}, next[TASKS] = {800
 static nd_event history[EVENTS];
 static size_t events;
 
+/* Asks an op, and writes the call down. A move alone may be refused. */
 static nd_reply ask(uint32_t task, uint32_t kind, uint32_t a, uint32_t b) {
     nd_op op = {kind, a, b};
     nd_event call = {ND_CALL, 0, task, op, 0, 0, nd_apply(tasks, TASKS, queues, QUEUES, task, op)};
+    if (!nd_granted(call.reply) && kind != ND_MOVE) {
+        fprintf(stderr, "op %" PRIu32 " of task %" PRIu32 " is refused: %s\n", kind, task, nd_strerror(call.reply.kind));
+        exit(1);
+    }
     history[events++ % EVENTS] = call;
     return call.reply;
 }
 
 /* The ready task of the earliest deadline on a runqueue, and TASKS where there is none. */
 static uint32_t running_on(uint32_t queue, uint32_t *deadline) {
-    uint32_t task = TASKS;
+    uint32_t task;
+    if (nd_earliest(tasks, TASKS, queue, &task, deadline) == ND_DONE)
+        return task;
     *deadline = UINT32_MAX;
-    nd_earliest(tasks, TASKS, queue, &task, deadline);
-    return task;
+    return TASKS;
 }
 
 /* The second ready task of each runqueue goes to the other one, where it comes before what runs there. */
@@ -45,7 +52,8 @@ static void push_and_pull(uint32_t now) {
 }
 
 int main(void) {
-    nd_open(tasks, TASKS, queues, QUEUES);
+    if (nd_open(tasks, TASKS, queues, QUEUES) != ND_DONE)
+        return 1;
     for (uint32_t t = 0; t < TASKS; t++)
         ask(t, ND_JOIN, t % QUEUES, 0);
     for (uint32_t now = 0; now < END;) {
@@ -88,7 +96,8 @@ int main(void) {
             if (runs[q] < TASKS && left[runs[q]] == 0)
                 ask(runs[q], ND_BLOCK, q, now);
     }
-    nd_open(tasks, TASKS, queues, QUEUES);
+    if (nd_open(tasks, TASKS, queues, QUEUES) != ND_DONE)
+        return 1;
     size_t given = nd_check(tasks, TASKS, queues, QUEUES, history, events);
     printf("nd_check: %zu of %zu events are the book's; nd_audit: %" PRIu32 "\n", given, events, nd_audit(tasks, TASKS, queues, QUEUES));
     return given == events ? 0 : 1;
