@@ -35,7 +35,7 @@ def numbers_of(pattern, text):
 
 def structs_of(text):
     """Of Rust or Rattle, without what takes no bytes, and a struct round another one as that: {name: [(field, type)]}."""
-    structs = all_of(r"#\[repr\(C\)\]\n(?:#[^\n]*\n)*pub struct (?:Nd)?(\w+) \{\n(.*?)\n\}", text)
+    structs = all_of(r"#\[repr\(C\)\]\n(?:#[^\n]*\n)*pub struct (?:Nd)?(\w+?)(?:Record)? \{\n(.*?)\n\}", text)
     found = {name: [(it, kind.removeprefix("Nd")) for it, kind in all_of(r"^ +(?:pub )?(\w+): ((?!Global)[^{},]+),", body)] for name, body in structs}
     return {name: found.get(fields[0][1], fields) if len(fields) == 1 else fields for name, fields in found.items()}
 
@@ -44,7 +44,7 @@ def calls_of(pattern, text):
     """Of Rust or Rattle, where a slice is a pointer and a count: {name: (types of the arguments, type of the result)}."""
     calls = {}
     for name, given, result in all_of(pattern, text):
-        types = ",".join(re.sub(r"\bNd", "", it.split(": ")[1]) for it in re.split(r",\s*", given) if ": " in it and "Global" not in it)
+        types = ",".join(re.sub(r"\bNd|Record\b", "", it.split(": ")[1]) for it in re.split(r",\s*", given) if ": " in it and "Global" not in it)
         spread = re.sub(r"&(mut )?(\[?)(\w+)\]?", lambda it: f"*{it[1] or 'const '}{it[3]}" + ",usize" * bool(it[2]), types)
         calls[name] = (spread.split(",") if spread else [], (result or "()").removeprefix("Nd"))
     return calls
