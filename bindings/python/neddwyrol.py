@@ -2,7 +2,8 @@
 
 neddwyrol.h says what each call promises. A Book stands over two arrays, one of tasks and one of runqueues, which are read
 directly: book.queues[0].running_bw. No call asks anything of the numbers that it is given. Moments, runs, runtimes,
-periods, budgets and deadlines have one unit, which the caller chooses; bandwidths are in 1/2^20.
+periods, budgets and deadlines have one unit, which the caller chooses; bandwidths are in 1/2^20. Arguments may be given by
+name: book.block(task=0, queue=0, moment=2).
 
 The library is the file that NEDDWYROL_SO names, or else libneddwyrol.so.1: beside this module, in the lib of the prefix that
 it was installed below, in out/library of the repository, or where the loader finds it.
@@ -95,7 +96,13 @@ class Reply(_Numbers):
 
     @property
     def granted(self):
-        return self.kind >= 101
+        return self.kind >= JOINED
+
+    def or_fault(self):
+        """The reply, where the op was granted. Else a Fault is raised, whose number is the reply's kind."""
+        if not self.granted:
+            raise Fault("refused", self.kind)
+        return self
 
 
 class Ask(_Numbers):

@@ -21,10 +21,11 @@ left, due = list(DEMAND), [period for _, period in RESERVATIONS]
 
 
 def ask(task, kind, a, b):
+    """Asks an op, and writes the call down. A move alone may be refused."""
     op = Op(kind, a, b)
     reply = book.apply(task, op)
     history.append(Event.call(task, op, reply))
-    return reply
+    return reply if kind == MOVE else reply.or_fault()
 
 
 def ready(queue):
