@@ -93,7 +93,7 @@ for it in llvm rattle; do
     both=("$made/$it/libneddwyrol_table.a" "$made/$it/libneddwyrol.a")
     tried "$it: no undefined symbol" - awk '/ U / { print; found = 1 } END { exit found }' <(nm "${both[1]}")
     tried "$it: no name but its own" - awk 'NF == 3 && $3 !~ /^nd_/ { print; found = 1 } END { exit found }' <(nm -g --defined-only "${both[@]}")
-    for example in documentation book arithmetic simulator damage; do
+    for example in first documentation book arithmetic simulator damage; do
         for compiler in gcc clang; do
             ! command -v "$compiler" > /dev/null || ran "$example by $compiler over $it" "$example" "$compiler" -std=c11 -pedantic "${checked[@]}" "bindings/c/$example.c" "${both[1]}"
         done
@@ -121,7 +121,7 @@ done
 # For arm64: compiled for it, and run by qemu. (It runs the threads in the memory order of the machine that it runs on.)
 if [[ -f $made/aarch64/libneddwyrol.a ]] && command -v qemu-aarch64 > /dev/null && compiles_for_arm64; then
     tried 'arm64: no undefined symbol' - awk '/ U / { print; found = 1 } END { exit found }' <(aarch64-linux-gnu-nm "$made/aarch64/libneddwyrol.a")
-    for example in documentation book arithmetic simulator damage claims empty threads; do
+    for example in first documentation book arithmetic simulator damage claims empty threads; do
         arm=("$made/aarch64/libneddwyrol.a")
         [[ ! $example =~ ^(claims|empty|threads)$ ]] || arm=("$made/aarch64/libneddwyrol_table.a" "${arm[@]}")
         aarch64-linux-gnu-gcc -static -std=c11 "${checked[@]}" "bindings/c/$example.c" "${arm[@]}" -pthread -o "$work/arm" || echo "library: $example is not compiled for arm64"
@@ -134,7 +134,7 @@ fi
 # Each example under valgrind, and threads under helgrind and ThreadSanitizer too: they find nothing. (Of the last the C part alone
 # is instrumented: what it cannot see are the library's own steps.)
 if command -v valgrind > /dev/null; then
-    for example in documentation book arithmetic simulator claims empty; do
+    for example in first documentation book arithmetic simulator claims empty; do
         cc -g -I bindings/include "bindings/c/$example.c" "${both[@]}" -o "$work/$example" || echo "library: $example is not compiled"
         tried "$example under valgrind" "$example" valgrind -q --error-exitcode=1 --leak-check=full "$work/$example"
     done
@@ -158,6 +158,7 @@ fi
 
 # What is installed, into an empty folder: what the page tells its reader, the table by its pkg-config file, and that all of it goes.
 # And Python, over the shared library.
+tried 'the first program of README and LIBRARY' - python3 bindings/page.py --shows bindings/c/first.c README.md docs/LIBRARY.md
 tried 'the commands of LIBRARY' - python3 bindings/page.py docs/LIBRARY.md "$made"
 tried 'install' - bash bindings/install.sh "$made" "$work/usr"
 if command -v pkg-config > /dev/null; then
