@@ -13,8 +13,8 @@
  * that is 2.1 seconds in nanoseconds, and 36 minutes in microseconds. Periods and runs end at 2^24. Bandwidths are in 1/2^20
  * (ND_UNIT is a whole processor). Tasks and runqueues are numbered from 0.
  *
- * Calls on a book or by a pass have their arguments in one order: the book or pass, the task, the runqueue or ticket, the moment
- * or run, and last what the call writes.
+ * Calls on a book or by a pass have their arguments in one order: the book or pass, the task, the runqueue or ticket, the
+ * moment or run, and last what the call writes.
  *
  * Two books need no lock between them, and calls are reentrant. Nothing is throttled: a budget that is used up is recharged
  * at once, and the deadline postponed by a period. */

@@ -70,13 +70,14 @@ ND_MUST_USE uint32_t nd_pass_part(nd_pass pass, nd_pass *back, nd_pass *part);
 
 /* Asks an op for a task. The call with its reply, as of nd_apply, is all that is new of the pass in the one history of the
  * table. No call is made where it answers 50, another pass has the task; 52, so many tries were lost, each to a change of the
- * runqueue's sums; 70 and 71 as of nd_apply. An op that changes no sum needs no try. */
+ * runqueue's sums; 70 and 71 as of nd_apply, and 71 to a move (ND_MOVE), which a table has not. An op that changes no sum needs
+ * no try. */
 ND_MUST_USE nd_reply nd_pass_apply(nd_pass pass, uint32_t task, nd_op op, uint8_t tries, nd_pass *back);
 
-/* The same in two steps. Where it answers 100 the pass has the task: its claim is written, and the pass is spent. Else the pass
- * is given back and no claim is written. No call is made where it answers 50, 70 or 71 as above. Any other reply is one that
- * the place, the count, the ticket or an early timer decided. The call with it is all that is new of the pass in the
- * history. */
+/* The same in two steps. Where it answers 100 the pass has the task: its claim is written, and the pass is spent. Else the
+ * pass is given back and no claim is written. No call is made where it answers 50, 70 or 71 as above, to a move too. Any
+ * other reply is one that the place, the count, the ticket or an early timer decided. The call with it is all that is new of
+ * the pass in the history. */
 ND_MUST_USE nd_reply nd_pass_start(nd_pass pass, uint32_t task, nd_op op, nd_pass *back, nd_claim *claim);
 
 /* Makes the call of a claim. The call with its reply is all that is new of the pass in the history; the task and the pass are
