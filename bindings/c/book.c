@@ -64,6 +64,16 @@ int main(void) {
     printf(" of task %" PRIu32 " at %" PRIu32 ", ticket %" PRIu32 "\n", t, moment, tasks[t].count);
     show("two are on the second", &book);
 
+    /* Between calls a runqueue's uextra may be written, and the whole record of a task that is away or gone. */
+    granted(nd_block(&book, 2, 0, 3));
+    granted(nd_exit(&book, 2));
+    nd_task fresh = {2, 16, 2, 0, 0, ND_AWAY, 0};
+    tasks[2] = fresh;
+    queues[0].uextra = ND_UNIT / 8;
+    show("written anew", &book);
+    printf("joined again with budget %" PRIu32, granted(nd_join(&book, 2, 0, 4)).budget);
+    printf(", charged %" PRIu64 " for 8\n", granted(nd_run(&book, 2, 0, 8)).charged);
+
     /* A snapshot is the memory: it is put back, or a history that was recorded since is held to it. */
     memcpy(tasks, saved, sizeof tasks);
     memcpy(queues, sums, sizeof queues);
