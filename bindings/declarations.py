@@ -15,7 +15,7 @@ OPS = ("JOIN", "WAKE", "BLOCK", "LEAVE", "TIMER", "EXIT", "CHARGE", "RETUNE", "M
 NUMBER = r"pub const (?:FLAT_)?(\w+): \w+ = (\d+);"
 EXPORT = r'extern "C" fn (\w+)\((.*?)\)(?: -> (\w+))?(?: \{)?\n'
 # How many calls a header has, inline ones too.
-HELD = {"neddwyrol.h": 33, "neddwyrol_table.h": 27}
+HELD = {"neddwyrol.h": 35, "neddwyrol_table.h": 27}
 OF_C = {"uint8_t": "u8", "uint32_t": "u32", "uint64_t": "u64", "int64_t": "i64", "size_t": "usize", "void": "u8"}
 
 
@@ -51,7 +51,7 @@ def calls_of(pattern, text):
 
 
 def source():
-    flat = text_of("crates/library_book/src", "memory.rt", "asked.rt", "moving.rt", "numbers.rt", "codes.rt", "checker.rt")
+    flat = text_of("crates/library_book/src", "memory.rt", "asked.rt", "moving.rt", "numbers.rt", "codes.rt", "checker.rt", "rebasing.rt")
     exports = text_of("crates/neddwyrol/src", "arithmetic.rt", "book.rt", "checks.rt", "first.rt")
     spoken, placed = text_of("crates/library_book/src", "calls.rt"), text_of("crates/library_book/src", "records.rt")
     numbers = {"GONE_FOR_GOOD": numbers_of(r"Place::(Gone) => \((\d+)", placed)["GONE"]}
@@ -137,7 +137,7 @@ def main(words):
     sys.dont_write_bytecode = True
     structs, calls, numbers = library = source()
     told = [len(it) for it in library + table()]
-    faults = [] if told == [10, 20, 66, 3, 13, 14] else [f"the source was not read: {told} structs, calls and numbers"]
+    faults = [] if told == [10, 22, 69, 3, 13, 14] else [f"the source was not read: {told} structs, calls and numbers"]
     plain = {name: ([it.replace("*const", "*mut").replace("usize", "u64") for it in given], result.replace("usize", "u64")) for name, (given, result) in calls.items()}
     for where, want, got in (
         ("neddwyrol.h", library, header("neddwyrol.h")),
@@ -154,7 +154,7 @@ def main(words):
         faults += [f"{it}: {call} answers, and has no ND_MUST_USE, or has it and answers nothing" for call in named_so]
         faults += [f"{it}: the arguments of {call} are in another order" for call in misplaced(it)]
     # (what is asked or answered: not the limits, the states, and the kinds of ops and events)
-    others = {"ABI", "VERSION", "UNIT", "QUEUES_MAX", "TASKS_MAX", "AWAY", "CONTENDING", "NON_CONTENDING", "INACTIVE", "GONE_FOR_GOOD", "CALL", "READING"}
+    others = {"ABI", "VERSION", "UNIT", "QUEUES_MAX", "TASKS_MAX", "AWAY", "CONTENDING", "NON_CONTENDING", "INACTIVE", "GONE_FOR_GOOD", "CALL", "READING", "REBASE"}
     others |= {it for it, number in numbers.items() if 1 <= number <= 9 and it in OPS}
     faults += [f"{where}: it names {it}, or has no name for it" for where, got in named() for it in got ^ (set(numbers) - others)]
     codes = {it: number for it, number in table()[2].items() if not it.endswith("_MAX")}

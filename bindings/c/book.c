@@ -1,4 +1,5 @@
-/* A book as memory: two runqueues, tasks that leave and move, admission, a batch, a snapshot, an audit, a recorded history. */
+/* A book as memory: two runqueues, tasks that leave and move, admission, a batch, a snapshot, another origin of time, an audit, a
+ * recorded history. */
 #include "neddwyrol.h"
 #include <inttypes.h>
 #include <stdio.h>
@@ -78,6 +79,23 @@ int main(void) {
     memcpy(tasks, saved, sizeof tasks);
     memcpy(queues, sums, sizeof queues);
     show("put back", &book);
+
+    /* The origin of time goes as far as the deadlines of ready tasks and the 0-lag times of waiting ones allow. */
+    uint32_t by = 0;
+    granted(nd_run(&book, 0, 0, 2));
+    nd_reply waits = granted(nd_block(&book, 0, 0, 2));
+    printf("rebase limit %s", nd_strerror(nd_rebase_limit(tasks, 3, queues, 2, &by)));
+    printf(" %" PRIu32, by);
+    nd_reply far = nd_rebase(tasks, 3, queues, 2, by + 1);
+    printf("; by one more: %s, task %" PRIu32, nd_strerror(far.kind), far.number);
+    printf("; by one less: %s", nd_strerror(nd_rebase(tasks, 3, queues, 2, by - 1).kind));
+    printf(", deadlines %" PRIu32 " %" PRIu32 " %" PRIu32 ", counts %" PRIu32 " %" PRIu32, tasks[0].deadline, tasks[1].deadline, tasks[2].deadline, tasks[0].count, tasks[1].count);
+    printf("; timer at 0 %s", nd_strerror(nd_timer(&book, 0, waits.number, 0).kind));
+    printf(", at 1 %s\n", nd_strerror(nd_timer(&book, 0, waits.number, 1).kind));
+    show("another origin", &book);
+    memcpy(tasks, saved, sizeof tasks);
+    memcpy(queues, sums, sizeof queues);
+
     memset(history, 0, sizeof history);
     history[0].kind = ND_CALL, history[0].number = 0, history[0].op.kind = ND_CHARGE, history[0].op.b = 2;
     history[0].reply.kind = ND_CHARGED, history[0].reply.budget = 2, history[0].reply.deadline = 8, history[0].reply.charged = 2;

@@ -10,8 +10,8 @@
  *   - nobody else reads or writes it during the call.
  *
  * Moments, runs, runtimes, periods, budgets and deadlines have one unit, which the caller chooses. Moments end at 2^31 - 1:
- * that is 2.1 seconds in nanoseconds, and 36 minutes in microseconds. Periods and runs end at 2^24. Bandwidths are in 1/2^20
- * (ND_UNIT is a whole processor). Tasks and runqueues are numbered from 0.
+ * that is 2.1 seconds in nanoseconds, and 36 minutes in microseconds. Before that nd_rebase moves their origin. Periods and runs
+ * end at 2^24. Bandwidths are in 1/2^20 (ND_UNIT is a whole processor). Tasks and runqueues are numbered from 0.
  *
  * Calls on a book or by a pass have their arguments in one order: the book or pass, the task, the runqueue or ticket, the
  * moment or run, and last what the call writes.
@@ -84,9 +84,9 @@ typedef struct {
 
 /* What is answered. A kind below 101 refuses, and from 101 on the op was granted; a later library may have more kinds. */
 typedef struct {
-    uint32_t kind;     /* ND_GONE to ND_DAMAGED, ND_JOINED to ND_MOVED */
+    uint32_t kind;     /* ND_GONE to ND_TOO_FAR, ND_JOINED to ND_REBASED */
     uint32_t number;   /* the ticket of ND_WAITING, the runqueue of ND_LEFT, ND_MOVED (the old one), ND_ALREADY_ON and
-                          ND_ELSEWHERE, how often ND_CHARGED recharged */
+                          ND_ELSEWHERE, the task of ND_TOO_FAR, how often ND_CHARGED recharged */
     uint32_t budget;   /* of ND_JOINED, ND_WOKEN and ND_CHARGED: what is left of the runtime */
     uint32_t deadline; /* of the same: the deadline; of ND_WAITING and ND_EARLY: the 0-lag time */
     uint64_t charged;  /* of ND_CHARGED: what was taken from the budget */
@@ -98,15 +98,15 @@ typedef struct {
     nd_op op;
 } nd_ask;
 
-/* An event of a recorded history: a call with its reply, or a reading. */
+/* An event of a recorded history: a call with its reply, a reading, or a rebase with its reply. */
 typedef struct {
-    uint32_t kind;       /* ND_CALL or ND_READING */
+    uint32_t kind;       /* ND_CALL, ND_READING or ND_REBASE */
     uint32_t pass;       /* who called or read: it is not looked at */
-    uint32_t number;     /* the task of a call, the runqueue of a reading */
+    uint32_t number;     /* the task of a call, the runqueue of a reading, the moment of a rebase */
     nd_op op;            /* what a call asked */
     uint32_t running_bw; /* what a reading gave */
     uint32_t this_bw;
-    nd_reply reply; /* what a call was answered */
+    nd_reply reply; /* what a call or rebase was answered */
 } nd_event;
 
 /* Plain numbers for the arithmetic: a reservation, the constants of a runqueue, a task's server, the sums of a runqueue. */
@@ -165,7 +165,7 @@ enum {
  *
  * The wake rule (nd_woken) is asked of budget and deadline as they were left, also at a join. A run is charged by the sums of
  * the moment at which nd_run is called, so charge it before an op changes them. A contending task whose count is 16777215 is
- * worn: it can only run and move, and its bandwidth stays taken. */
+ * worn: it can only run and move, and its bandwidth stays taken, until a rebase. */
 enum {
     ND_JOIN = 1,
     ND_WAKE = 2,
@@ -180,7 +180,8 @@ enum {
 
 enum {
     ND_CALL = 1,
-    ND_READING = 2
+    ND_READING = 2,
+    ND_REBASE = 3
 };
 
 enum {
@@ -223,6 +224,7 @@ enum {
     ND_NO_OP = 71,   /* no such op: its kind, runqueue, moment, run (1 to 16777216) or reservation is out of range */
     ND_DAMAGED = 72, /* the memory is no book */
     ND_NOBODY = 73,  /* no task of the runqueue contends, or waits for its 0-lag time */
+    ND_TOO_FAR = 74, /* a rebase past a contending task's deadline, or past a waiting task's 0-lag time */
     /* what the book grants */
     ND_JOINED = 101,
     ND_WOKEN = 102,
@@ -233,7 +235,8 @@ enum {
     ND_ENDED = 107,
     ND_CHARGED = 108,
     ND_RETUNED = 109,
-    ND_MOVED = 110
+    ND_MOVED = 110,
+    ND_REBASED = 111 /* the origin of time was moved */
 };
 
 /* Makes a book of the reservations and the constants that stand in the memory: every task is away, with the count 0, a
@@ -265,10 +268,28 @@ ND_MUST_USE uint32_t nd_open_fault(const nd_task *tasks, size_t task_count, cons
 ND_MUST_USE uint32_t nd_audit_fault(const nd_task *tasks, size_t task_count, const nd_runqueue *queues, size_t queue_count,
                                     uint32_t *number);
 
+/* Moves the origin of time of a book: what was the moment by is the moment 0 from then on. Each deadline falls by as much, and
+ * is 0 where it was below. The count of a task that waits for its 0-lag time stays, and that of each other task becomes 0.
+ * Budgets, reservations, states, runqueues and sums stay. 111 where it was done. It is refused where a contending task's
+ * deadline, or a waiting task's 0-lag time, is below by: 74, and the number is the first such task. 72 says that the memory is
+ * no book. A reply whose kind is below 101 writes nothing.
+ *
+ * From then on an op at a moment less by is answered as it would have been at the moment, with its deadline or 0-lag time less
+ * by, and its ticket less the count that was forgotten. Two refusals come later than they would have: 17 and 21. A timer of a
+ * task that did not wait has to be dropped before: its ticket would be taken for a new one. A waiting task keeps its ticket. */
+ND_MUST_USE nd_reply nd_rebase(nd_task *tasks, size_t task_count, nd_runqueue *queues, size_t queue_count, uint32_t by);
+
+/* Writes the greatest by that nd_rebase does not refuse, and answers 0. It is the least of the deadlines of contending tasks
+ * and of the 0-lag times of waiting ones, and 4294967295 where no task is active. 72 says that the memory is no book; then
+ * nothing is written. */
+ND_MUST_USE uint32_t nd_rebase_limit(const nd_task *tasks, size_t task_count, const nd_runqueue *queues, size_t queue_count,
+                                     uint32_t *by);
+
 /* Replays a recorded history on a book, as one that nd_open made. It answers the index of the first event that is out of
  * range or is not what the book replies or reads, and the number of events where each is the book's. A history that
  * nd_apply answered is out of range where a reply is 70 or 71. The memory becomes the book after the events that are
- * counted: the call that is not the book's is not made. */
+ * counted: the call that is not the book's is not made. Of a rebase the event has by as its number, and what nd_rebase
+ * answered as its reply. */
 ND_MUST_USE size_t nd_check(nd_task *tasks, size_t task_count, nd_runqueue *queues, size_t queue_count,
                             const nd_event *events, size_t event_count);
 
@@ -338,8 +359,9 @@ ND_MUST_USE static inline const char *nd_strerror(uint32_t kind) {
         ND_NAMED(BUDGET_OUT_OF_RANGE) ND_NAMED(MOMENT_OUT_OF_RANGE) ND_NAMED(RUNNING_OUT_OF_RANGE)
         ND_NAMED(COUNT_OUT_OF_RANGE) ND_NAMED(QUEUE_OUT_OF_RANGE) ND_NAMED(WRONG_RUNNING_BW) ND_NAMED(WRONG_THIS_BW)
         ND_NAMED(OVERFULL) ND_NAMED(STATE_OUT_OF_RANGE) ND_NAMED(NO_TASK) ND_NAMED(NO_OP) ND_NAMED(DAMAGED)
-        ND_NAMED(NOBODY) ND_NAMED(JOINED) ND_NAMED(WOKEN) ND_NAMED(WAITING) ND_NAMED(ASLEEP) ND_NAMED(LEFT)
-        ND_NAMED(RETIRED) ND_NAMED(ENDED) ND_NAMED(CHARGED) ND_NAMED(RETUNED) ND_NAMED(MOVED)
+        ND_NAMED(NOBODY) ND_NAMED(TOO_FAR) ND_NAMED(JOINED) ND_NAMED(WOKEN) ND_NAMED(WAITING) ND_NAMED(ASLEEP)
+        ND_NAMED(LEFT) ND_NAMED(RETIRED) ND_NAMED(ENDED) ND_NAMED(CHARGED) ND_NAMED(RETUNED) ND_NAMED(MOVED)
+        ND_NAMED(REBASED)
 #undef ND_NAMED
         case 23: return "NO_PASS";
         case 24: return "TOO_MANY_PASSES";

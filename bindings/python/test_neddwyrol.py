@@ -105,6 +105,27 @@ class Books(unittest.TestCase):
         with self.assertRaises(nd.Fault):
             book.exhaustion(0)
 
+    def test_origins(self):
+        book, history = nd.Book([HALF, HALF], [(nd.UNIT, 0)]), []
+        self.assertEqual((book.rebase_limit(), book.rebase(by=2**32 - 1).kind), (2**32 - 1, nd.REBASED))
+        for task, op in [(0, nd.Op(nd.JOIN, 0, 10)), (1, nd.Op(nd.JOIN, 0, 10)), (0, nd.Op(nd.CHARGE, 0, 2)), (0, nd.Op(nd.BLOCK, 0, 12))]:
+            history.append(nd.Event.call(task, op, book.apply(task, op).or_fault()))
+        self.assertEqual(book.rebase_limit(), 14)
+        for by in 15, 12:
+            history.append(nd.Event.rebase(by, book.rebase(by)))
+        self.assertEqual([(it.reply.kind, it.reply.number) for it in history[4:]], [(nd.TOO_FAR, 0), (nd.REBASED, 0)])
+        self.assertEqual([(it.deadline, it.count) for it in book.tasks], [(6, 1), (6, 0)])
+        self.assertEqual([book.timer(task=0, ticket=1, moment=it).kind for it in (1, 2)], [nd.EARLY, nd.RETIRED])
+        book.rebase(by=6).or_fault()
+        self.assertEqual([(it.deadline, it.count) for it in book.tasks], [(0, 0), (0, 0)])
+        self.assertEqual(nd.Book([HALF, HALF], [(nd.UNIT, 0)]).check(history), 6)
+        history[5].reply.kind = nd.TOO_FAR
+        self.assertEqual(nd.Book([HALF, HALF], [(nd.UNIT, 0)]).check(history), 5)
+        book.tasks[0].budget = 9
+        self.assertEqual(book.rebase(0).kind, nd.DAMAGED)
+        with self.assertRaisesRegex(nd.Fault, "^nd_rebase_limit: 72 DAMAGED$"):
+            book.rebase_limit()
+
     def test_history(self):
         book, history = nd.Book([HALF], [(nd.UNIT, 0)]), []
         for op in [nd.Op(nd.JOIN, 0, 0), nd.Op(nd.CHARGE, 0, 2), nd.Op(nd.BLOCK, 0, 2)]:

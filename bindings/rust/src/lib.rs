@@ -82,7 +82,7 @@ pub struct Ask {
     pub op: Op,
 }
 
-/// An event of a recorded history: a call with its reply, or a reading.
+/// An event of a recorded history: a call with its reply, a reading, or a rebase with its reply.
 #[repr(C)]
 #[derive(Clone, Copy, Debug, Default, PartialEq, Eq)]
 pub struct Event {
@@ -231,6 +231,11 @@ impl Event {
         Event { kind: codes::CALL, number: task.0, op, reply, ..Event::default() }
     }
 
+    /// A rebase with its reply.
+    pub fn rebase(by: Moment, reply: Reply) -> Event {
+        Event { kind: codes::REBASE, number: by.0, reply, ..Event::default() }
+    }
+
     /// A reading of a runqueue.
     pub fn reading(queue: Runqueue, now: Reading) -> Event {
         Event { kind: codes::READING, number: queue.0, running_bw: now.running_bw, this_bw: now.this_bw, ..Event::default() }
@@ -283,6 +288,22 @@ impl<'a> Book<'a> {
                 replies.len(),
             )
         }
+    }
+
+    /// Moves the origin of time: what was this moment is the moment 0 from then on. `neddwyrol.h` says what a rebase changes, and
+    /// which timers have to be dropped before.
+    #[must_use = "the rebase may be refused"]
+    pub fn rebase(&mut self, by: Moment) -> Reply {
+        // SAFETY: as above.
+        unsafe { raw::nd_rebase(self.tasks.as_mut_ptr(), self.tasks.len(), self.queues.as_mut_ptr(), self.queues.len(), by.0) }
+    }
+
+    /// The last moment that a rebase may make the moment 0.
+    pub fn rebase_limit(&self) -> Result<Moment, Fault> {
+        let mut by = 0;
+        // SAFETY: both point to that many structs, which are only read, and the number is its own.
+        unless(unsafe { raw::nd_rebase_limit(self.tasks.as_ptr(), self.tasks.len(), self.queues.as_ptr(), self.queues.len(), &mut by) })?;
+        Ok(Moment(by))
     }
 
     /// Replays a recorded history: how many events the book gives.

@@ -25,6 +25,8 @@ extern "C" {
         events: *const Event,
         event_count: usize,
     ) -> usize;
+    pub fn nd_rebase(tasks: *mut TaskRecord, task_count: usize, queues: *mut RunqueueRecord, queue_count: usize, by: u32) -> Reply;
+    pub fn nd_rebase_limit(tasks: *const TaskRecord, task_count: usize, queues: *const RunqueueRecord, queue_count: usize, by: *mut u32) -> u32;
     pub fn nd_params_fault(params: Params) -> u32;
     pub fn nd_capacity_fault(queue: Capacity) -> u32;
     pub fn nd_bw(params: Params) -> u32;

@@ -103,6 +103,34 @@ fn moves() {
 }
 
 #[test]
+fn origins() {
+    let (mut tasks, mut queues) = memory();
+    let mut book = Book::open(&mut tasks, &mut queues).unwrap();
+    assert_eq!(book.rebase_limit(), Ok(Moment(u32::MAX)));
+    assert_eq!(book.rebase(Moment(u32::MAX)).kind, codes::REBASED);
+    let mut history = vec![];
+    for (task, op) in [(A, Op::join(HERE, Moment(10))), (B, Op::join(HERE, Moment(10))), (A, Op::charge(HERE, 2)), (A, Op::block(HERE, Moment(12)))] {
+        history.push(Event::call(task, op, book.apply(task, op)));
+    }
+    assert_eq!((book.rebase_limit(), book.tasks()[0].count), (Ok(Moment(14)), 1));
+    let far = book.rebase(Moment(15));
+    assert_eq!((far.kind, far.number, book.tasks()[1].deadline), (codes::TOO_FAR, 0, 18));
+    history.push(Event::rebase(Moment(15), far));
+    history.push(Event::rebase(Moment(12), book.rebase(Moment(12)).granted().unwrap()));
+    assert_eq!((book.tasks()[0].deadline, book.tasks()[0].count, book.tasks()[1].deadline), (6, 1, 6));
+    assert_eq!([1, 2].map(|now| book.timer(A, 1, Moment(now)).kind), [codes::EARLY, codes::RETIRED]);
+    book.rebase(Moment(6)).granted().unwrap();
+    assert_eq!((book.tasks()[0].count, book.tasks()[1].deadline), (0, 0));
+    assert_eq!(book.wake(A, HERE, Moment(0)).deadline, 8);
+    let mut again = memory();
+    assert_eq!(Book::open(&mut again.0, &mut again.1).unwrap().check(&history), 6);
+    history[5].number = 11;
+    assert_eq!(Book::open(&mut again.0, &mut again.1).unwrap().check(&history), 6);
+    history[4].reply.number = 1;
+    assert_eq!(Book::open(&mut again.0, &mut again.1).unwrap().check(&history), 4);
+}
+
+#[test]
 fn arithmetic() {
     let server = Server { budget: 2, deadline: 8 };
     assert_eq!((HALF.bw(), HALF.check(), Params { runtime: 9, period: 8 }.check()), (524288, Ok(()), Err(Fault(2))));
