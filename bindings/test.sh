@@ -112,6 +112,7 @@ for it in llvm rattle; do
         tried "the Rust crate over $it" - cargo test -q --manifest-path bindings/rust/Cargo.toml
         tried "the shared table's Rust crate over $it" - cargo test -q --manifest-path bindings/rust_table/Cargo.toml
         tried "random ops over $it" random cargo run -q --release --manifest-path bindings/plain/Cargo.toml --bin random 1000000
+        tried "random ops and rebases over $it" rebases cargo run -q --release --manifest-path bindings/plain/Cargo.toml --bin rebases 1000000
         tried "the example in Rust over $it" documentation cargo run -q --manifest-path bindings/rust/Cargo.toml --example documentation
     else
         echo 'library: there is no cargo: the Rust crates and the random ops are not tried'

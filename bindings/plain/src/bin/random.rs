@@ -1,38 +1,7 @@
 //! Random ops, also out of range, asked of the library and of plain Rust's book: each reply, each sum and each record has
 //! to be the same, and every history has to be found to be the book's. `random OPS` asks about so many.
 use neddwyrol::{audit, codes, Book, Event, Moment, Op, Reading, Runqueue, RunqueueRecord, Task, TaskRecord};
-use plain::{Op as PlainOp, Params, Place, Queue, Reply, State};
-
-struct Random(u64);
-
-impl Random {
-    fn below(&mut self, n: u32) -> u32 {
-        self.0 ^= self.0 << 13;
-        self.0 ^= self.0 >> 7;
-        self.0 ^= self.0 << 17;
-        (self.0 >> 20) as u32 % n
-    }
-
-    fn one_of<const N: usize>(&mut self, choices: [u32; N]) -> u32 {
-        choices[self.below(N as u32) as usize]
-    }
-
-    fn reservation(&mut self) -> (u32, u32) {
-        loop {
-            let most = self.one_of([10, 1000, 1 << 24]);
-            let period = 1 + self.below(most);
-            let runtime = 1 + self.below(period);
-            if Params::new(runtime, period).is_some() {
-                return (runtime, period);
-            }
-        }
-    }
-
-    fn constants(&mut self) -> (u32, u32) {
-        let umax = 1 + self.below(1 << 20).max(self.below(1 << 20));
-        (umax, self.below(umax + 1))
-    }
-}
+use plain::{random::Random, Op as PlainOp, Params, Place, Queue, Reply, State};
 
 fn numbers(reply: Reply) -> (u32, u32, u32, u32, u64) {
     match reply {
@@ -128,7 +97,7 @@ fn main() {
     let (mut asked, mut granted, mut outside, mut seed) = (0u64, 0u64, 0u64, 0u64);
     while asked < wanted {
         seed += 1;
-        let mut random = Random(seed.wrapping_mul(0x9E37_79B9_7F4A_7C15) | 1);
+        let mut random = Random::new(seed);
         let (n, m) = (1 + random.below(6), 1 + random.below(3));
         let reservations: Vec<_> = (0..n).map(|_| random.reservation()).collect();
         let constants: Vec<_> = (0..m).map(|_| random.constants()).collect();
