@@ -119,6 +119,10 @@ for it in llvm rattle; do
     fi
 done
 
+# A day with a task that waits a thousand times a second, which nd_check holds to the book second by second.
+cc -std=c11 "${checked[@]}" bindings/c/simulator.c "$made/libneddwyrol.a" -o "$work/simulator" || echo 'library: the simulator is not compiled'
+tried 'a day of the simulator' day "$work/simulator" 86400
+
 # For arm64: compiled for it, and run by qemu. (It runs the threads in the memory order of the machine that it runs on.)
 if [[ -f $made/aarch64/libneddwyrol.a ]] && command -v qemu-aarch64 > /dev/null && compiles_for_arm64; then
     tried 'arm64: no undefined symbol' - awk '/ U / { print; found = 1 } END { exit found }' <(aarch64-linux-gnu-nm "$made/aarch64/libneddwyrol.a")
