@@ -14,6 +14,8 @@
  *
  * A call takes a pass and gives it back by its argument `back`. The calls at the end, as nd_call, do so by themselves.
  *
+ * The table has no move, which it answers 71, and no nd_rebase: a table lasts for an epoch.
+ *
  * A pass or claim is empty before a call writes it and after a call has spent it. A call with an empty one answers 51 where it
  * answers, and does nothing more: passes come back as they were, and nothing else is written. */
 #ifndef NEDDWYROL_TABLE_H
