@@ -102,7 +102,7 @@ for it in llvm rattle; do
                 ran "$example by $compiler over $it" "$example" "$compiler" -std=c++17 "${checked[@]}" -x c++ "bindings/c/$example.c" -x none "${both[1]}"
         done
     done
-    for example in claims empty threads; do
+    for example in claims empty epochs threads; do
         ran "the shared table's $example over $it" "$example" cc -std=c11 -pedantic "${checked[@]}" "bindings/c/$example.c" "${both[@]}" -pthread
     done
     # (what the benchmark asks, every way answers alike)
@@ -126,9 +126,9 @@ tried 'a day of the simulator' day "$work/simulator" 86400
 # For arm64: compiled for it, and run by qemu. (It runs the threads in the memory order of the machine that it runs on.)
 if [[ -f $made/aarch64/libneddwyrol.a ]] && command -v qemu-aarch64 > /dev/null && compiles_for_arm64; then
     tried 'arm64: no undefined symbol' - awk '/ U / { print; found = 1 } END { exit found }' <(aarch64-linux-gnu-nm "$made/aarch64/libneddwyrol.a")
-    for example in first documentation book arithmetic simulator damage claims empty threads; do
+    for example in first documentation book arithmetic simulator damage claims empty epochs threads; do
         arm=("$made/aarch64/libneddwyrol.a")
-        [[ ! $example =~ ^(claims|empty|threads)$ ]] || arm=("$made/aarch64/libneddwyrol_table.a" "${arm[@]}")
+        [[ ! $example =~ ^(claims|empty|epochs|threads)$ ]] || arm=("$made/aarch64/libneddwyrol_table.a" "${arm[@]}")
         aarch64-linux-gnu-gcc -static -std=c11 "${checked[@]}" "bindings/c/$example.c" "${arm[@]}" -pthread -o "$work/arm" || echo "library: $example is not compiled for arm64"
         tried "$example on arm64" "$example" qemu-aarch64 "$work/arm"
     done
@@ -139,7 +139,7 @@ fi
 # Each example under valgrind, and threads under helgrind and ThreadSanitizer too: they find nothing. (Of the last the C part alone
 # is instrumented: what it cannot see are the library's own steps.)
 if command -v valgrind > /dev/null; then
-    for example in first documentation book arithmetic simulator claims empty; do
+    for example in first documentation book arithmetic simulator claims empty epochs; do
         cc -g -I bindings/include "bindings/c/$example.c" "${both[@]}" -o "$work/$example" || echo "library: $example is not compiled"
         tried "$example under valgrind" "$example" valgrind -q --error-exitcode=1 --leak-check=full "$work/$example"
     done
