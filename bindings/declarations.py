@@ -14,6 +14,8 @@ ROOT = os.path.dirname(os.path.dirname(os.path.abspath(__file__)))
 OPS = ("JOIN", "WAKE", "BLOCK", "LEAVE", "TIMER", "EXIT", "CHARGE", "RETUNE", "MOVE")
 NUMBER = r"pub const (?:FLAT_)?(\w+): \w+ = (\d+);"
 EXPORT = r'extern "C" fn (\w+)\((.*?)\)(?: -> (\w+))?(?: \{)?\n'
+# How many calls a header has, inline ones too.
+HELD = {"neddwyrol.h": 35, "neddwyrol_table.h": 27}
 OF_C = {"uint8_t": "u8", "uint32_t": "u32", "uint64_t": "u64", "int64_t": "i64", "size_t": "usize", "void": "u8"}
 
 
@@ -33,7 +35,7 @@ def numbers_of(pattern, text):
 
 def structs_of(text):
     """Of Rust or Rattle, without what takes no bytes, and a struct round another one as that: {name: [(field, type)]}."""
-    structs = all_of(r"#\[repr\(C\)\]\n(?:#[^\n]*\n)*pub struct (?:Nd)?(\w+) \{\n(.*?)\n\}", text)
+    structs = all_of(r"#\[repr\(C\)\]\n(?:#[^\n]*\n)*pub struct (?:Nd)?(\w+?)(?:Record)? \{\n(.*?)\n\}", text)
     found = {name: [(it, kind.removeprefix("Nd")) for it, kind in all_of(r"^ +(?:pub )?(\w+): ((?!Global)[^{},]+),", body)] for name, body in structs}
     return {name: found.get(fields[0][1], fields) if len(fields) == 1 else fields for name, fields in found.items()}
 
@@ -42,7 +44,7 @@ def calls_of(pattern, text):
     """Of Rust or Rattle, where a slice is a pointer and a count: {name: (types of the arguments, type of the result)}."""
     calls = {}
     for name, given, result in all_of(pattern, text):
-        types = ",".join(re.sub(r"\bNd", "", it.split(": ")[1]) for it in re.split(r",\s*", given) if ": " in it and "Global" not in it)
+        types = ",".join(re.sub(r"\bNd|Record\b", "", it.split(": ")[1]) for it in re.split(r",\s*", given) if ": " in it and "Global" not in it)
         spread = re.sub(r"&(mut )?(\[?)(\w+)\]?", lambda it: f"*{it[1] or 'const '}{it[3]}" + ",usize" * bool(it[2]), types)
         calls[name] = (spread.split(",") if spread else [], (result or "()").removeprefix("Nd"))
     return calls
@@ -74,8 +76,26 @@ def header(name):
         return f"*{const or 'mut '}{plain}" if star else "()" if word == "void" else plain
 
     structs = {kind(it): [(field, kind(of)) for of, field in all_of(r"(\w+ \*?)(\w+);", body)] for body, it in all_of(r"typedef struct \{(.*?)\} (\w+);", text)}
-    calls = {it: ([kind(re.sub(r"\w+\s*$", "", a)) for a in given.split(",") if a != "void"], kind(of)) for of, it, given in all_of(r"^(\w+) (nd_\w+)\((.*?)\);", text)}
+    calls = {it: ([kind(re.sub(r"\w+\s*$", "", a)) for a in given.split(",") if a != "void"], kind(of)) for of, it, given in all_of(r"^(?:ND_MUST_USE )?(\w+) (nd_\w+)\((.*?)\);", text)}
     return {it: fields for it, fields in structs.items() if it != "Book"}, calls, numbers_of(r"ND_(\w+) (?:= )?(\d+)", text)
+
+
+def dropped(name):
+    """The calls of a header, inline ones too, that answer what a caller may pass over without a warning, or are warned of in vain."""
+    calls = all_of(r"^(ND_MUST_USE )?(?:static inline )?(?:const )?(\w+) (\*?nd_\w+)\([^;{]*?\)(?:;| \{)", text_of("bindings/include", name))
+    return len(calls), [call.lstrip("*") for is_marked, kind, call in calls if bool(is_marked) == (kind == "void")]
+
+
+def misplaced(name):
+    """The calls of a header whose arguments are not in its one order: the book or pass, the task, the runqueue or ticket, the moment or
+    run, and then what is written."""
+    order = [("book", "tasks", "pass"), ("task",), ("queue", "ticket"), ("moment", "run")]
+    faults = []
+    for call, given in all_of(r"^ND_MUST_USE (?:static inline )?\w+ (nd_\w+)\((.*?)\)[;\s]", text_of("bindings/include", name)):
+        names = [it.split()[-1].lstrip("*") for it in given.split(",") if not re.search(r"_t \*\w+$", it)]
+        places = [at for it in names for at, alike in enumerate(order) if it in alike]
+        faults += [call] * (places != sorted(places) and places[0] == 0)
+    return faults
 
 
 def crate(folder):
@@ -128,6 +148,11 @@ def main(words):
     ):
         for wanted, found in zip(want, got):
             faults += [f"{where}: the source has {it} as {wanted.get(it)}, and here it is {found.get(it)}" for it in {**wanted, **found} if wanted.get(it) != found.get(it)]
+    for it in ("neddwyrol.h", "neddwyrol_table.h"):
+        count, named_so = dropped(it)
+        faults += [f"{it}: the calls were not read: {count}"] * (count != HELD[it])
+        faults += [f"{it}: {call} answers, and has no ND_MUST_USE, or has it and answers nothing" for call in named_so]
+        faults += [f"{it}: the arguments of {call} are in another order" for call in misplaced(it)]
     # (what is asked or answered: not the limits, the states, and the kinds of ops and events)
     others = {"ABI", "VERSION", "UNIT", "QUEUES_MAX", "TASKS_MAX", "AWAY", "CONTENDING", "NON_CONTENDING", "INACTIVE", "GONE_FOR_GOOD", "CALL", "READING", "REBASE"}
     others |= {it for it, number in numbers.items() if 1 <= number <= 9 and it in OPS}

@@ -1,5 +1,6 @@
 #!/usr/bin/env python3
-"""page.py PAGE LIBRARIES: does what a page tells its reader, in an empty folder.
+"""page.py PAGE LIBRARIES: does what a page tells its reader, in an empty folder. page.py --shows FILE PAGE..: whether each page has the
+file word for word, as a block of code.
 
 The library is installed below ~/.local of a home of its own, as the page's `make` does it. Then each block ```c, ```rust
 and ```python is written as program.c, program.rs or program.py, each block ```sh is run, and what it prints has to be the block
@@ -23,6 +24,21 @@ def surroundings(home):
     tools = {"RUSTUP_HOME": ".rustup", "CARGO_HOME": ".cargo", "PYENV_ROOT": ".pyenv"}
     env |= {name: os.path.expanduser(f"~/{folder}") for name, folder in tools.items() if name not in env}
     return env | {"HOME": home, "CARGO_NET_OFFLINE": "true", "PYTHONDONTWRITEBYTECODE": "1"}
+
+
+def shows(file, *pages):
+    """Ends with 0 where each page has the file's lines as a block that is fenced, or indented by four."""
+    with open(file, encoding="utf-8") as it:
+        lines = it.read().splitlines()
+    fenced, indented = ["```c", *lines, "```"], ["", *("    " * bool(it) + it for it in lines), ""]
+    lacking = []
+    for page in pages:
+        with open(page, encoding="utf-8") as it:
+            text = it.read()
+        if not any("\n".join(["", *block, ""]) in text for block in (fenced, indented)):
+            lacking.append(page)
+    print("".join(f"page: {it} does not show {file}\n" for it in lacking), end="")
+    return 1 if lacking else 0
 
 
 def main(page, libraries):
@@ -56,4 +72,4 @@ def main(page, libraries):
 
 
 if __name__ == "__main__":
-    sys.exit(main(*sys.argv[1:]))
+    sys.exit(shows(*sys.argv[2:]) if sys.argv[1] == "--shows" else main(*sys.argv[1:]))

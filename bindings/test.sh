@@ -28,6 +28,15 @@ ran() {
     tried "$1" "$2" "$work/program"
 }
 
+# warns COMPILER..: it compiles a call whose reply is looked at, and refuses each whose reply is dropped.
+warns() {
+    local it
+    for it in 'if (!nd_granted(nd_join(book, 0, 0, 0))) *all = *all' 'nd_join(book, 0, 0, 0)' 'nd_open(book->tasks, 0, book->queues, 0)' 'nd_meet(all, all)'; do
+        printf '#include <neddwyrol_table.h>\nvoid drops(nd_book *book, nd_pass *all);\nvoid drops(nd_book *book, nd_pass *all) { %s; (void)book, (void)all; }\n' "$it" > "$work/drops.c"
+        if "$@" -c -o "$work/drops.o" "$work/drops.c"; then [[ $it == if* ]]; else [[ $it != if* ]]; fi || return 1
+    done
+}
+
 # joined PREFIX TABLE HEAP TO: the shared table with its few lines over malloc as one object, of which a program sees no names but nd_*.
 joined() {
     "$1ld" -r -o "$work/table.o" --whole-archive "$2" --no-whole-archive "$3" && "$1objcopy" --wildcard --keep-global-symbol='nd_*' "$work/table.o" &&
@@ -72,13 +81,19 @@ fi
 # and from Rust the crates' tests and random ops beside plain Rust.
 tried 'the declarations' - python3 bindings/declarations.py "$made/libneddwyrol.so"
 checked=(-O2 -Wall -Wextra -Werror -I bindings/include)
+for compiler in gcc clang; do
+    ! command -v "$compiler" > /dev/null || tried "$compiler warns of a dropped reply" - warns "$compiler" -std=c11 -pedantic "${checked[@]}"
+done
+for compiler in g++ clang++; do
+    ! command -v "$compiler" > /dev/null || tried "$compiler warns of a dropped reply" - warns "$compiler" -std=c++17 "${checked[@]}" -x c++
+done
 export CARGO_TARGET_DIR=$made/cargo CARGO_NET_OFFLINE=true
 for it in llvm rattle; do
     export NEDDWYROL_LIB=$made/$it
     both=("$made/$it/libneddwyrol_table.a" "$made/$it/libneddwyrol.a")
     tried "$it: no undefined symbol" - awk '/ U / { print; found = 1 } END { exit found }' <(nm "${both[1]}")
     tried "$it: no name but its own" - awk 'NF == 3 && $3 !~ /^nd_/ { print; found = 1 } END { exit found }' <(nm -g --defined-only "${both[@]}")
-    for example in documentation book arithmetic simulator damage; do
+    for example in first documentation book arithmetic simulator damage; do
         for compiler in gcc clang; do
             ! command -v "$compiler" > /dev/null || ran "$example by $compiler over $it" "$example" "$compiler" -std=c11 -pedantic "${checked[@]}" "bindings/c/$example.c" "${both[1]}"
         done
@@ -87,7 +102,7 @@ for it in llvm rattle; do
                 ran "$example by $compiler over $it" "$example" "$compiler" -std=c++17 "${checked[@]}" -x c++ "bindings/c/$example.c" -x none "${both[1]}"
         done
     done
-    for example in claims empty threads; do
+    for example in claims empty epochs threads; do
         ran "the shared table's $example over $it" "$example" cc -std=c11 -pedantic "${checked[@]}" "bindings/c/$example.c" "${both[@]}" -pthread
     done
     # (what the benchmark asks, every way answers alike)
@@ -97,18 +112,23 @@ for it in llvm rattle; do
         tried "the Rust crate over $it" - cargo test -q --manifest-path bindings/rust/Cargo.toml
         tried "the shared table's Rust crate over $it" - cargo test -q --manifest-path bindings/rust_table/Cargo.toml
         tried "random ops over $it" random cargo run -q --release --manifest-path bindings/plain/Cargo.toml --bin random 1000000
+        tried "random ops and rebases over $it" rebases cargo run -q --release --manifest-path bindings/plain/Cargo.toml --bin rebases 1000000
         tried "the example in Rust over $it" documentation cargo run -q --manifest-path bindings/rust/Cargo.toml --example documentation
     else
         echo 'library: there is no cargo: the Rust crates and the random ops are not tried'
     fi
 done
 
+# A day with a task that waits a thousand times a second, which nd_check holds to the book second by second.
+cc -std=c11 "${checked[@]}" bindings/c/simulator.c "$made/libneddwyrol.a" -o "$work/simulator" || echo 'library: the simulator is not compiled'
+tried 'a day of the simulator' day "$work/simulator" 86400
+
 # For arm64: compiled for it, and run by qemu. (It runs the threads in the memory order of the machine that it runs on.)
 if [[ -f $made/aarch64/libneddwyrol.a ]] && command -v qemu-aarch64 > /dev/null && compiles_for_arm64; then
     tried 'arm64: no undefined symbol' - awk '/ U / { print; found = 1 } END { exit found }' <(aarch64-linux-gnu-nm "$made/aarch64/libneddwyrol.a")
-    for example in documentation book arithmetic simulator damage claims empty threads; do
+    for example in first documentation book arithmetic simulator damage claims empty epochs threads; do
         arm=("$made/aarch64/libneddwyrol.a")
-        [[ ! $example =~ ^(claims|empty|threads)$ ]] || arm=("$made/aarch64/libneddwyrol_table.a" "${arm[@]}")
+        [[ ! $example =~ ^(claims|empty|epochs|threads)$ ]] || arm=("$made/aarch64/libneddwyrol_table.a" "${arm[@]}")
         aarch64-linux-gnu-gcc -static -std=c11 "${checked[@]}" "bindings/c/$example.c" "${arm[@]}" -pthread -o "$work/arm" || echo "library: $example is not compiled for arm64"
         tried "$example on arm64" "$example" qemu-aarch64 "$work/arm"
     done
@@ -119,7 +139,7 @@ fi
 # Each example under valgrind, and threads under helgrind and ThreadSanitizer too: they find nothing. (Of the last the C part alone
 # is instrumented: what it cannot see are the library's own steps.)
 if command -v valgrind > /dev/null; then
-    for example in documentation book arithmetic simulator claims empty; do
+    for example in first documentation book arithmetic simulator claims empty epochs; do
         cc -g -I bindings/include "bindings/c/$example.c" "${both[@]}" -o "$work/$example" || echo "library: $example is not compiled"
         tried "$example under valgrind" "$example" valgrind -q --error-exitcode=1 --leak-check=full "$work/$example"
     done
@@ -143,6 +163,7 @@ fi
 
 # What is installed, into an empty folder: what the page tells its reader, the table by its pkg-config file, and that all of it goes.
 # And Python, over the shared library.
+tried 'the first program of README and LIBRARY' - python3 bindings/page.py --shows bindings/c/first.c README.md docs/LIBRARY.md
 tried 'the commands of LIBRARY' - python3 bindings/page.py docs/LIBRARY.md "$made"
 tried 'install' - bash bindings/install.sh "$made" "$work/usr"
 if command -v pkg-config > /dev/null; then

@@ -1,7 +1,7 @@
 #!/usr/bin/env python3
 """options.py: holds man pages and completions of bash, zsh and fish to the options, commands, views and version that --help and
---version of the built programs tell: none is forgotten, none is there no more. Versions are held to the file VERSION, and README's lines
-of the library to the example in bindings/c. The last line is 'N passed, M failed'."""
+--version of the built programs tell: none is forgotten, none is there no more. Versions are held to the file VERSION. The last line is
+'N passed, M failed'."""
 import re
 
 from shared import IS_UNPROVED, ROOT, Tried, built, ran, text_of
@@ -105,18 +105,8 @@ def versions():
         same(f"{program} --version", f"{program} {version}{' unproved' * IS_UNPROVED}\n", said(program, "--version"))
 
 
-def example(path, begin, drop, indent):
-    """How an example begins, up to the first line that it prints."""
-    text = text_of(f"{ROOT}/bindings/{path}")
-    lines = text[re.search(begin, text, re.M).start():].split("\n")
-    end = next(at for at, it in enumerate(lines) if "waiting ticket" in it) + 1
-    return [it.removeprefix(" " * indent) for it in lines[drop:end]]
-
-
 if __name__ == "__main__":
     hold("grubrun")
     hold("grubtrace")
     versions()
-    shown = re.findall(r"^    (.*)", between(text_of(f"{ROOT}/README.md"), "\n## Use the library\n", "\n## "), re.M)
-    same("README and the example in C", "\n".join(example("c/documentation.c", "^int main", 1, 4)), "\n".join(shown))
     TRIED.end()

@@ -42,7 +42,8 @@ int main(void) {
 
     if (nd_gather(&first, &second) != ND_DONE || nd_close(&first, &last, 1) != ND_DONE)
         return 1;
-    nd_open(tasks, 2, queues, 1);
+    if (nd_open(tasks, 2, queues, 1) != ND_DONE)
+        return 1;
     printf("nd_check: %zu of %zu\n", nd_check(tasks, 2, queues, 1, events, count), count);
     printf("the last sums are its: %d\n", last.running_bw == queues[0].running_bw && last.this_bw == queues[0].this_bw);
     return 0;

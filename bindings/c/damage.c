@@ -50,7 +50,7 @@ int main(int argc, char **argv) {
         nd_reply replies[ASKS], reply;
         nd_op op;
         size_t n = i % 8 ? TASKS : below(TASKS + 1), m = i % 8 ? QUEUES : below(QUEUES + 1);
-        uint32_t fault;
+        uint32_t fault, limit;
         fill(tasks, sizeof tasks);
         fill(queues, sizeof queues);
         fill(asks, sizeof asks);
@@ -81,10 +81,26 @@ int main(int argc, char **argv) {
         given += nd_check(tasks, n, queues, m, events, ASKS);
         memcpy(was, tasks, sizeof tasks);
         memcpy(were, queues, sizeof queues);
+        fault = nd_audit(tasks, n, queues, m);
+        if (nd_rebase_limit(tasks, n, queues, m, &limit) != ND_DONE && fault == ND_DONE) {
+            printf("a book is told to be none\n");
+            return 1;
+        }
+        reply = nd_rebase(tasks, n, queues, m, op.b);
+        if (nd_granted(reply) ? fault == ND_DONE && nd_audit(tasks, n, queues, m) : memcmp(was, tasks, sizeof tasks) || memcmp(were, queues, sizeof queues)) {
+            printf("a rebase is wrong: %" PRIu32 "\n", reply.kind);
+            return 1;
+        }
+        memcpy(tasks, was, sizeof tasks);
+        memcpy(queues, were, sizeof queues);
         fault = nd_open(tasks, n, queues, m);
         opened[fault < 127 ? fault : 127]++;
         if (fault ? memcmp(was, tasks, sizeof tasks) || memcmp(were, queues, sizeof queues) : nd_audit(tasks, n, queues, m)) {
             printf("an opening is wrong: %" PRIu32 "\n", fault);
+            return 1;
+        }
+        if (fault == ND_DONE && (nd_rebase_limit(tasks, n, queues, m, &limit) != ND_DONE || limit != UINT32_MAX || !nd_granted(nd_rebase(tasks, n, queues, m, op.b)) || nd_audit(tasks, n, queues, m))) {
+            printf("the rebase of an opening is wrong\n");
             return 1;
         }
     }

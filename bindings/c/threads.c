@@ -72,7 +72,8 @@ static void *work(void *given) {
             nd_reading reading = {0, 0};
             nd_reply reply = call(w, task, round ? ND_WAKE : ND_JOIN, queue, now);
             call(w, task, ND_CHARGE, queue, 3 + k);
-            nd_read(&w->pass, queue, &reading);
+            if (nd_read(&w->pass, queue, &reading) != ND_DONE)
+                abort();
             nd_event event = {ND_READING, w->number, queue, {0, 0, 0}, reading.running_bw, reading.this_bw, {0, 0, 0, 0, 0}};
             note(w, event);
             reply = call(w, task, ND_BLOCK, queue, now + 1);
@@ -143,15 +144,15 @@ static int tried(void) {
         count += workers[i].count;
     }
     pthread_barrier_destroy(&together);
-    nd_meet(&workers[0].pass, &workers[1].pass);
-    if (nd_close(&workers[0].pass, last, QUEUES) != ND_MISSING)
+    if (nd_meet(&workers[0].pass, &workers[1].pass) != ND_DONE || nd_close(&workers[0].pass, last, QUEUES) != ND_MISSING)
         return 0;
     for (int i = 1; i < THREADS; i++)
         if (nd_gather(&workers[0].pass, &workers[i].pass) != ND_DONE)
             return 0;
     if (nd_close(&workers[0].pass, last, QUEUES) != ND_DONE || workers[0].pass.at)
         return 0;
-    nd_open(start.tasks, TASKS, start.queues, QUEUES);
+    if (nd_open(start.tasks, TASKS, start.queues, QUEUES) != ND_DONE)
+        return 0;
     point again = start;
     if (!ordered(&start, 0) || nd_check(again.tasks, TASKS, again.queues, QUEUES, order, count) != count)
         return 0;

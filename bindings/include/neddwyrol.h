@@ -10,8 +10,11 @@
  *   - nobody else reads or writes it during the call.
  *
  * Moments, runs, runtimes, periods, budgets and deadlines have one unit, which the caller chooses. Moments end at 2^31 - 1:
- * that is 2.1 seconds in nanoseconds, and 36 minutes in microseconds. Periods and runs end at 2^24. Bandwidths are in 1/2^20
- * (ND_UNIT is a whole processor). Tasks and runqueues are numbered from 0.
+ * that is 2.1 seconds in nanoseconds, and 36 minutes in microseconds. Before that nd_rebase moves their origin. Periods and runs
+ * end at 2^24. Bandwidths are in 1/2^20 (ND_UNIT is a whole processor). Tasks and runqueues are numbered from 0.
+ *
+ * Calls on a book or by a pass have their arguments in one order: the book or pass, the task, the runqueue or ticket, the
+ * moment or run, and last what the call writes.
  *
  * Two books need no lock between them, and calls are reentrant. Nothing is throttled: a budget that is used up is recharged
  * at once, and the deadline postponed by a period. */
@@ -23,6 +26,15 @@
 #else
 #include <stddef.h>
 #include <stdint.h>
+#endif
+
+/* A compiler warns where the answer of such a call is dropped. Who means to drop one stores it in a variable. */
+#if (defined(__cplusplus) && __cplusplus >= 201703L) || (defined(__STDC_VERSION__) && __STDC_VERSION__ >= 202311L)
+#define ND_MUST_USE [[nodiscard]]
+#elif defined(__GNUC__)
+#define ND_MUST_USE __attribute__((warn_unused_result))
+#else
+#define ND_MUST_USE
 #endif
 
 #ifdef __cplusplus
@@ -72,9 +84,9 @@ typedef struct {
 
 /* What is answered. A kind below 101 refuses, and from 101 on the op was granted; a later library may have more kinds. */
 typedef struct {
-    uint32_t kind;     /* ND_GONE to ND_DAMAGED, ND_JOINED to ND_MOVED */
+    uint32_t kind;     /* ND_GONE to ND_TOO_FAR, ND_JOINED to ND_REBASED */
     uint32_t number;   /* the ticket of ND_WAITING, the runqueue of ND_LEFT, ND_MOVED (the old one), ND_ALREADY_ON and
-                          ND_ELSEWHERE, how often ND_CHARGED recharged */
+                          ND_ELSEWHERE, the task of ND_TOO_FAR, how often ND_CHARGED recharged */
     uint32_t budget;   /* of ND_JOINED, ND_WOKEN and ND_CHARGED: what is left of the runtime */
     uint32_t deadline; /* of the same: the deadline; of ND_WAITING and ND_EARLY: the 0-lag time */
     uint64_t charged;  /* of ND_CHARGED: what was taken from the budget */
@@ -86,15 +98,15 @@ typedef struct {
     nd_op op;
 } nd_ask;
 
-/* An event of a recorded history: a call with its reply, or a reading. */
+/* An event of a recorded history: a call with its reply, a reading, or a rebase with its reply. */
 typedef struct {
-    uint32_t kind;       /* ND_CALL or ND_READING */
+    uint32_t kind;       /* ND_CALL, ND_READING or ND_REBASE */
     uint32_t pass;       /* who called or read: it is not looked at */
-    uint32_t number;     /* the task of a call, the runqueue of a reading */
+    uint32_t number;     /* the task of a call, the runqueue of a reading, the moment of a rebase */
     nd_op op;            /* what a call asked */
     uint32_t running_bw; /* what a reading gave */
     uint32_t this_bw;
-    nd_reply reply; /* what a call was answered */
+    nd_reply reply; /* what a call or rebase was answered */
 } nd_event;
 
 /* Plain numbers for the arithmetic: a reservation, the constants of a runqueue, a task's server, the sums of a runqueue. */
@@ -153,7 +165,7 @@ enum {
  *
  * The wake rule (nd_woken) is asked of budget and deadline as they were left, also at a join. A run is charged by the sums of
  * the moment at which nd_run is called, so charge it before an op changes them. A contending task whose count is 16777215 is
- * worn: it can only run and move, and its bandwidth stays taken. */
+ * worn: it can only run and move, and its bandwidth stays taken, until a rebase. */
 enum {
     ND_JOIN = 1,
     ND_WAKE = 2,
@@ -168,7 +180,8 @@ enum {
 
 enum {
     ND_CALL = 1,
-    ND_READING = 2
+    ND_READING = 2,
+    ND_REBASE = 3
 };
 
 enum {
@@ -211,6 +224,7 @@ enum {
     ND_NO_OP = 71,   /* no such op: its kind, runqueue, moment, run (1 to 16777216) or reservation is out of range */
     ND_DAMAGED = 72, /* the memory is no book */
     ND_NOBODY = 73,  /* no task of the runqueue contends, or waits for its 0-lag time */
+    ND_TOO_FAR = 74, /* a rebase past a contending task's deadline, or past a waiting task's 0-lag time */
     /* what the book grants */
     ND_JOINED = 101,
     ND_WOKEN = 102,
@@ -221,98 +235,120 @@ enum {
     ND_ENDED = 107,
     ND_CHARGED = 108,
     ND_RETUNED = 109,
-    ND_MOVED = 110
+    ND_MOVED = 110,
+    ND_REBASED = 111 /* the origin of time was moved */
 };
 
 /* Makes a book of the reservations and the constants that stand in the memory: every task is away, with the count 0, a
  * full budget and the deadline 0, and every sum is 0. It answers 0 exactly where there are 1 to 65536 runqueues and at
  * most 1048576 tasks, and each number is within its limits. Else it answers the number of the first fault, and writes
  * nothing: 6, 7 and 8, then 4 and 5 of the runqueues in order, then 1, 2 and 3 of the tasks in order. */
-uint32_t nd_open(nd_task *tasks, size_t task_count, nd_runqueue *queues, size_t queue_count);
+ND_MUST_USE uint32_t nd_open(nd_task *tasks, size_t task_count, nd_runqueue *queues, size_t queue_count);
 
 /* Asks an op for a task. On memory that is a book the answer is exactly that of the one-thread book, and the memory is
  * the book after the step. It is 70 where there is no such task, and then 71 where no such op may be asked. 72 says that
  * the memory is no book. A reply whose kind is below 101 refuses, and then nothing is written. */
-nd_reply nd_apply(nd_task *tasks, size_t task_count, nd_runqueue *queues, size_t queue_count, uint32_t task, nd_op op);
+ND_MUST_USE nd_reply nd_apply(nd_task *tasks, size_t task_count, nd_runqueue *queues, size_t queue_count, uint32_t task,
+                              nd_op op);
 
 /* Asks ops one after another, as many as there is room for replies, and answers how many that were. Each is asked and
  * answered as nd_apply does. Replies past that count are left as they were. */
-size_t nd_apply_all(nd_task *tasks, size_t task_count, nd_runqueue *queues, size_t queue_count, const nd_ask *asks,
-                    size_t ask_count, nd_reply *replies, size_t reply_count);
+ND_MUST_USE size_t nd_apply_all(nd_task *tasks, size_t task_count, nd_runqueue *queues, size_t queue_count,
+                                const nd_ask *asks, size_t ask_count, nd_reply *replies, size_t reply_count);
 
 /* Answers 0 exactly where the memory is a book: its numbers are within their limits, and the sums of each runqueue are
  * those of its tasks, added up afresh. Else it answers the number of the first fault: 1 to 8 as of nd_open, then 60, 63,
  * 68 and 64 of the tasks in order, then 65, 66 and 67 of the runqueues in order. It takes time by runqueues times tasks. */
-uint32_t nd_audit(const nd_task *tasks, size_t task_count, const nd_runqueue *queues, size_t queue_count);
+ND_MUST_USE uint32_t nd_audit(const nd_task *tasks, size_t task_count, const nd_runqueue *queues, size_t queue_count);
 
 /* What nd_open would answer, and what nd_audit answers. Where that is a fault, they write which task or runqueue has it. Of
  * the faults 6, 7 and 8 the number is 0. */
-uint32_t nd_open_fault(const nd_task *tasks, size_t task_count, const nd_runqueue *queues, size_t queue_count,
-                       uint32_t *number);
-uint32_t nd_audit_fault(const nd_task *tasks, size_t task_count, const nd_runqueue *queues, size_t queue_count,
-                        uint32_t *number);
+ND_MUST_USE uint32_t nd_open_fault(const nd_task *tasks, size_t task_count, const nd_runqueue *queues, size_t queue_count,
+                                   uint32_t *number);
+ND_MUST_USE uint32_t nd_audit_fault(const nd_task *tasks, size_t task_count, const nd_runqueue *queues, size_t queue_count,
+                                    uint32_t *number);
+
+/* Moves the origin of time of a book: what was the moment by is the moment 0 from then on. Each deadline falls by as much, and
+ * is 0 where it was below. The count of a task that waits for its 0-lag time stays, and that of each other task becomes 0.
+ * Budgets, reservations, states, runqueues and sums stay. 111 where it was done. It is refused where a contending task's
+ * deadline, or a waiting task's 0-lag time, is below by: 74, and the number is the first such task. 72 says that the memory is
+ * no book. A reply whose kind is below 101 writes nothing.
+ *
+ * From then on an op at a moment less by is answered as it would have been at the moment, with its deadline or 0-lag time less
+ * by, and its ticket less the count that was forgotten. Two refusals come later than they would have: 17 and 21. A timer of a
+ * task that did not wait has to be dropped before: its ticket would be taken for a new one. A waiting task keeps its ticket. */
+ND_MUST_USE nd_reply nd_rebase(nd_task *tasks, size_t task_count, nd_runqueue *queues, size_t queue_count, uint32_t by);
+
+/* Writes the greatest by that nd_rebase does not refuse, and answers 0. It is the least of the deadlines of contending tasks
+ * and of the 0-lag times of waiting ones, and 4294967295 where no task is active. 72 says that the memory is no book; then
+ * nothing is written. */
+ND_MUST_USE uint32_t nd_rebase_limit(const nd_task *tasks, size_t task_count, const nd_runqueue *queues, size_t queue_count,
+                                     uint32_t *by);
 
 /* Replays a recorded history on a book, as one that nd_open made. It answers the index of the first event that is out of
  * range or is not what the book replies or reads, and the number of events where each is the book's. A history that
  * nd_apply answered is out of range where a reply is 70 or 71. The memory becomes the book after the events that are
- * counted: the call that is not the book's is not made. */
-size_t nd_check(nd_task *tasks, size_t task_count, nd_runqueue *queues, size_t queue_count, const nd_event *events,
-                size_t event_count);
+ * counted: the call that is not the book's is not made. Of a rebase the event has by as its number, and what nd_rebase
+ * answered as its reply. */
+ND_MUST_USE size_t nd_check(nd_task *tasks, size_t task_count, nd_runqueue *queues, size_t queue_count,
+                            const nd_event *events, size_t event_count);
 
 /* Answers 0 exactly where the numbers are a reservation, else 1, 2 or 3, the first that holds. */
-uint32_t nd_params_fault(nd_params params);
+ND_MUST_USE uint32_t nd_params_fault(nd_params params);
 
 /* Answers 0 exactly where the numbers are the constants of a runqueue, else 4 or 5, the first that holds. */
-uint32_t nd_capacity_fault(nd_capacity queue);
+ND_MUST_USE uint32_t nd_capacity_fault(nd_capacity queue);
 
 /* The bandwidth of a reservation, runtime * 2^20 / period rounded down; 0 where the numbers are none. */
-uint32_t nd_bw(nd_params params);
+ND_MUST_USE uint32_t nd_bw(nd_params params);
 
 /* The calls below write what they are to find, and answer 0. Else they answer the first fault in the order that is given,
  * and write nothing.
  *
  * The 0-lag time of a server, deadline - budget * period / runtime, where the quotient is rounded down. It may be below
  * 0. Faults: 1, 2, 3, 60. */
-uint32_t nd_zero_lag(nd_server server, nd_params params, int64_t *z);
+ND_MUST_USE uint32_t nd_zero_lag(nd_server server, nd_params params, int64_t *z);
 
 /* The server of a task that wakes at a moment: a full budget and the deadline a period later where the budget until the
  * deadline would be more than the reservation gives, else the server that it has. Faults: 1, 2, 3, 60, 61. */
-uint32_t nd_woken(nd_server server, nd_params params, uint32_t moment, nd_server *woken);
+ND_MUST_USE uint32_t nd_woken(nd_server server, nd_params params, uint32_t moment, nd_server *woken);
 
 /* What a run takes from the budget of a task of bandwidth bw: run * rate / umax rounded down, where rate is the greater
  * of bw and umax - (this_bw - running_bw) - uextra. Faults: 4, 5, 62. */
-uint32_t nd_charge(uint32_t run, uint32_t bw, nd_capacity queue, nd_reading now, uint64_t *charged);
+ND_MUST_USE uint32_t nd_charge(uint32_t run, uint32_t bw, nd_capacity queue, nd_reading now, uint64_t *charged);
 
 /* The least run of a task of bandwidth bw whose charge, by these sums, is at least the budget: when a dispatcher has to look
  * again. A run of one less is charged less. Faults: 4, 5, 62, and 3 where bw is 0, since then a run may be charged nothing. */
-uint32_t nd_exhaustion(uint32_t budget, uint32_t bw, nd_capacity queue, nd_reading now, uint64_t *run);
+ND_MUST_USE uint32_t nd_exhaustion(uint32_t budget, uint32_t bw, nd_capacity queue, nd_reading now, uint64_t *run);
 
 /* The server after this was taken from its budget, and how often the budget was recharged meanwhile, each time with the
  * runtime and a deadline a period later: the least count that leaves a budget. Faults: 1, 2, 3, 60, 21. */
-uint32_t nd_deplete(nd_server server, nd_params params, uint64_t charged, nd_server *left, uint32_t *recharges);
+ND_MUST_USE uint32_t nd_deplete(nd_server server, nd_params params, uint64_t charged, nd_server *left, uint32_t *recharges);
 
 /* What a kernel itself charges for a run of dt nanoseconds, in nanoseconds and with its rounding (grub_reclaim of
  * kernel/sched/deadline.c). kernel is its version as KERNEL_VERSION has it, 0x060100 for 6.1: before 6.5 the charge goes
  * by the whole processor, and from 6.5 on by max_bw. The sums are those of its runqueue. Every number is taken modulo
  * 2^64, as the kernel's are, so any numbers have a charge. */
-uint64_t nd_kernel_charge(uint32_t kernel, uint64_t dt, uint64_t bw, uint64_t this_bw, uint64_t running_bw,
-                          uint64_t extra_bw, uint64_t max_bw, uint64_t bw_ratio);
+ND_MUST_USE uint64_t nd_kernel_charge(uint32_t kernel, uint64_t dt, uint64_t bw, uint64_t this_bw, uint64_t running_bw,
+                                      uint64_t extra_bw, uint64_t max_bw, uint64_t bw_ratio);
 
 /* The contending task of a runqueue with the earliest deadline, and that deadline; of equals the one of the least number.
  * Faults: 7, and 73 where none contends there. It looks at each task once, on any memory. */
-uint32_t nd_earliest(const nd_task *tasks, size_t task_count, uint32_t queue, uint32_t *task, uint32_t *deadline);
+ND_MUST_USE uint32_t nd_earliest(const nd_task *tasks, size_t task_count, uint32_t queue, uint32_t *task,
+                                 uint32_t *deadline);
 
 /* The task of a runqueue that waits for the earliest 0-lag time, and that moment, 0 where it is below 0; of equals the one of
  * the least number. The ticket of its timer is its count. Faults: 7, and 73 where none waits there. */
-uint32_t nd_next_timer(const nd_task *tasks, size_t task_count, uint32_t queue, uint32_t *task, uint32_t *moment);
+ND_MUST_USE uint32_t nd_next_timer(const nd_task *tasks, size_t task_count, uint32_t queue, uint32_t *task,
+                                   uint32_t *moment);
 
 /* Answers the ND_ABI, and the ND_VERSION, that the library was made with. */
-uint32_t nd_abi(void);
-uint32_t nd_version(void);
+ND_MUST_USE uint32_t nd_abi(void);
+ND_MUST_USE uint32_t nd_version(void);
 
 /* The name of a fault or of a reply's kind, without ND_, also of those that neddwyrol_table.h adds; "UNKNOWN" where the
  * number is none of them. The text is static. */
-static inline const char *nd_strerror(uint32_t kind) {
+ND_MUST_USE static inline const char *nd_strerror(uint32_t kind) {
     switch (kind) {
 #define ND_NAMED(name) case ND_##name: return #name;
         ND_NAMED(DONE) ND_NAMED(PERIOD_OUT_OF_RANGE) ND_NAMED(RUNTIME_OUT_OF_RANGE) ND_NAMED(TOO_SMALL)
@@ -323,8 +359,9 @@ static inline const char *nd_strerror(uint32_t kind) {
         ND_NAMED(BUDGET_OUT_OF_RANGE) ND_NAMED(MOMENT_OUT_OF_RANGE) ND_NAMED(RUNNING_OUT_OF_RANGE)
         ND_NAMED(COUNT_OUT_OF_RANGE) ND_NAMED(QUEUE_OUT_OF_RANGE) ND_NAMED(WRONG_RUNNING_BW) ND_NAMED(WRONG_THIS_BW)
         ND_NAMED(OVERFULL) ND_NAMED(STATE_OUT_OF_RANGE) ND_NAMED(NO_TASK) ND_NAMED(NO_OP) ND_NAMED(DAMAGED)
-        ND_NAMED(NOBODY) ND_NAMED(JOINED) ND_NAMED(WOKEN) ND_NAMED(WAITING) ND_NAMED(ASLEEP) ND_NAMED(LEFT)
-        ND_NAMED(RETIRED) ND_NAMED(ENDED) ND_NAMED(CHARGED) ND_NAMED(RETUNED) ND_NAMED(MOVED)
+        ND_NAMED(NOBODY) ND_NAMED(TOO_FAR) ND_NAMED(JOINED) ND_NAMED(WOKEN) ND_NAMED(WAITING) ND_NAMED(ASLEEP)
+        ND_NAMED(LEFT) ND_NAMED(RETIRED) ND_NAMED(ENDED) ND_NAMED(CHARGED) ND_NAMED(RETUNED) ND_NAMED(MOVED)
+        ND_NAMED(REBASED)
 #undef ND_NAMED
         case 23: return "NO_PASS";
         case 24: return "TOO_MANY_PASSES";
@@ -341,6 +378,9 @@ static inline const char *nd_strerror(uint32_t kind) {
     }
 }
 
+/* Whether an op was granted. Else nothing was written. */
+ND_MUST_USE static inline int nd_granted(nd_reply reply) { return reply.kind >= ND_JOINED; }
+
 /* The two arrays of a book in one struct, and a call for each op. */
 typedef struct {
     nd_task *tasks;
@@ -349,7 +389,7 @@ typedef struct {
     size_t queue_count;
 } nd_book;
 
-static inline nd_reply nd_ask_for(const nd_book *book, uint32_t task, uint32_t kind, uint32_t a, uint32_t b) {
+ND_MUST_USE static inline nd_reply nd_ask_for(const nd_book *book, uint32_t task, uint32_t kind, uint32_t a, uint32_t b) {
     nd_op op;
     op.kind = kind;
     op.a = a;
@@ -357,40 +397,44 @@ static inline nd_reply nd_ask_for(const nd_book *book, uint32_t task, uint32_t k
     return nd_apply(book->tasks, book->task_count, book->queues, book->queue_count, task, op);
 }
 
-static inline nd_reply nd_join(const nd_book *book, uint32_t task, uint32_t queue, uint32_t moment) {
+ND_MUST_USE static inline nd_reply nd_join(const nd_book *book, uint32_t task, uint32_t queue, uint32_t moment) {
     return nd_ask_for(book, task, ND_JOIN, queue, moment);
 }
 
-static inline nd_reply nd_wake(const nd_book *book, uint32_t task, uint32_t queue, uint32_t moment) {
+ND_MUST_USE static inline nd_reply nd_wake(const nd_book *book, uint32_t task, uint32_t queue, uint32_t moment) {
     return nd_ask_for(book, task, ND_WAKE, queue, moment);
 }
 
-static inline nd_reply nd_block(const nd_book *book, uint32_t task, uint32_t queue, uint32_t moment) {
+ND_MUST_USE static inline nd_reply nd_block(const nd_book *book, uint32_t task, uint32_t queue, uint32_t moment) {
     return nd_ask_for(book, task, ND_BLOCK, queue, moment);
 }
 
-static inline nd_reply nd_leave(const nd_book *book, uint32_t task) { return nd_ask_for(book, task, ND_LEAVE, 0, 0); }
+ND_MUST_USE static inline nd_reply nd_leave(const nd_book *book, uint32_t task) {
+    return nd_ask_for(book, task, ND_LEAVE, 0, 0);
+}
 
-static inline nd_reply nd_timer(const nd_book *book, uint32_t task, uint32_t ticket, uint32_t moment) {
+ND_MUST_USE static inline nd_reply nd_timer(const nd_book *book, uint32_t task, uint32_t ticket, uint32_t moment) {
     return nd_ask_for(book, task, ND_TIMER, ticket, moment);
 }
 
-static inline nd_reply nd_exit(const nd_book *book, uint32_t task) { return nd_ask_for(book, task, ND_EXIT, 0, 0); }
+ND_MUST_USE static inline nd_reply nd_exit(const nd_book *book, uint32_t task) {
+    return nd_ask_for(book, task, ND_EXIT, 0, 0);
+}
 
-static inline nd_reply nd_run(const nd_book *book, uint32_t task, uint32_t queue, uint32_t run) {
+ND_MUST_USE static inline nd_reply nd_run(const nd_book *book, uint32_t task, uint32_t queue, uint32_t run) {
     return nd_ask_for(book, task, ND_CHARGE, queue, run);
 }
 
-static inline nd_reply nd_retune(const nd_book *book, uint32_t task, uint32_t runtime, uint32_t period) {
+ND_MUST_USE static inline nd_reply nd_retune(const nd_book *book, uint32_t task, uint32_t runtime, uint32_t period) {
     return nd_ask_for(book, task, ND_RETUNE, runtime, period);
 }
 
-static inline nd_reply nd_move(const nd_book *book, uint32_t task, uint32_t queue) {
+ND_MUST_USE static inline nd_reply nd_move(const nd_book *book, uint32_t task, uint32_t queue) {
     return nd_ask_for(book, task, ND_MOVE, queue, 0);
 }
 
 /* nd_exhaustion of a task of the book by the sums of its runqueue. Faults: 70, 14 where it does not contend, and 72. */
-static inline uint32_t nd_task_exhaustion(const nd_book *book, uint32_t task, uint64_t *run) {
+ND_MUST_USE static inline uint32_t nd_task_exhaustion(const nd_book *book, uint32_t task, uint64_t *run) {
     nd_params params;
     nd_capacity capacity;
     nd_reading now;
@@ -404,9 +448,12 @@ static inline uint32_t nd_task_exhaustion(const nd_book *book, uint32_t task, ui
     if (held->queue >= book->queue_count)
         return ND_DAMAGED;
     on = &book->queues[held->queue];
-    params.runtime = held->runtime, params.period = held->period;
-    capacity.umax = on->umax, capacity.uextra = on->uextra;
-    now.running_bw = on->running_bw, now.this_bw = on->this_bw;
+    params.runtime = held->runtime;
+    params.period = held->period;
+    capacity.umax = on->umax;
+    capacity.uextra = on->uextra;
+    now.running_bw = on->running_bw;
+    now.this_bw = on->this_bw;
     return nd_exhaustion(held->budget, nd_bw(params), capacity, now, run) == ND_DONE ? ND_DONE : ND_DAMAGED;
 }
 

@@ -14,6 +14,8 @@
  *
  * A call takes a pass and gives it back by its argument `back`. The calls at the end, as nd_call, do so by themselves.
  *
+ * The table has no move, which it answers 71, and no nd_rebase: a table lasts for an epoch.
+ *
  * A pass or claim is empty before a call writes it and after a call has spent it. A call with an empty one answers 51 where it
  * answers, and does nothing more: passes come back as they were, and nothing else is written. */
 #ifndef NEDDWYROL_TABLE_H
@@ -61,70 +63,71 @@ enum {
 /* Opens a table of the reservations and constants that stand in the memory, at most 256 tasks and 64 runqueues, with 1 to 64
  * passes, and writes one pass with all others gathered. It answers 0, or the first fault: 1 to 8 as of nd_open, 23, 24 or
  * 25; then nothing is written. */
-uint32_t nd_table_open(const nd_task *tasks, size_t task_count, const nd_runqueue *queues, size_t queue_count, uint32_t passes,
-                       nd_pass *all);
+ND_MUST_USE uint32_t nd_table_open(const nd_task *tasks, size_t task_count, const nd_runqueue *queues, size_t queue_count,
+                                   uint32_t passes, nd_pass *all);
 
 /* Gives the last pass that was gathered a handle of its own. It answers 0; or 27 where none is gathered or memory was
  * refused, and then the pass is given back as it was and no other is written. */
-uint32_t nd_pass_part(nd_pass pass, nd_pass *back, nd_pass *part);
+ND_MUST_USE uint32_t nd_pass_part(nd_pass pass, nd_pass *back, nd_pass *part);
 
 /* Asks an op for a task. The call with its reply, as of nd_apply, is all that is new of the pass in the one history of the
  * table. No call is made where it answers 50, another pass has the task; 52, so many tries were lost, each to a change of the
- * runqueue's sums; 70 and 71 as of nd_apply. An op that changes no sum needs no try. */
-nd_reply nd_pass_apply(nd_pass pass, uint32_t task, nd_op op, uint8_t tries, nd_pass *back);
+ * runqueue's sums; 70 and 71 as of nd_apply, and 71 to a move (ND_MOVE), which a table has not. An op that changes no sum needs
+ * no try. */
+ND_MUST_USE nd_reply nd_pass_apply(nd_pass pass, uint32_t task, nd_op op, uint8_t tries, nd_pass *back);
 
-/* The same in two steps. Where it answers 100 the pass has the task: its claim is written, and the pass is spent. Else the pass
- * is given back and no claim is written. No call is made where it answers 50, 70 or 71 as above. Any other reply is one that
- * the place, the count, the ticket or an early timer decided. The call with it is all that is new of the pass in the
- * history. */
-nd_reply nd_pass_start(nd_pass pass, uint32_t task, nd_op op, nd_pass *back, nd_claim *claim);
+/* The same in two steps. Where it answers 100 the pass has the task: its claim is written, and the pass is spent. Else the
+ * pass is given back and no claim is written. No call is made where it answers 50, 70 or 71 as above, to a move too. Any
+ * other reply is one that the place, the count, the ticket or an early timer decided. The call with it is all that is new of
+ * the pass in the history. */
+ND_MUST_USE nd_reply nd_pass_start(nd_pass pass, uint32_t task, nd_op op, nd_pass *back, nd_claim *claim);
 
 /* Makes the call of a claim. The call with its reply is all that is new of the pass in the history; the task and the pass are
  * given back. Or it answers 52: so many tries were lost, each to a change of the runqueue's sums. Then no call is made, and
  * the claim is given back. An op that changes no sum needs no try. */
-nd_reply nd_claim_finish(nd_claim claim, uint8_t tries, nd_pass *back, nd_claim *claim_back);
+ND_MUST_USE nd_reply nd_claim_finish(nd_claim claim, uint8_t tries, nd_pass *back, nd_claim *claim_back);
 
 /* Writes the record of the claim's task, which is the task's in the history that the pass has seen, and gives the claim back.
  * It answers 0, or 51 where the claim is empty. */
-uint32_t nd_claim_record(nd_claim claim, nd_task *task, nd_claim *claim_back);
+ND_MUST_USE uint32_t nd_claim_record(nd_claim claim, nd_task *task, nd_claim *claim_back);
 
 /* Gives the task and the pass back: no call is made, and nothing is new of the pass in the history. */
 void nd_claim_cancel(nd_claim claim, nd_pass *back);
 
 /* Reads the sums of a runqueue, at one moment. It answers 0, or 64 where there is no such runqueue and nothing is written. */
-uint32_t nd_pass_read(nd_pass pass, uint32_t queue, nd_reading *reading, nd_pass *back);
+ND_MUST_USE uint32_t nd_pass_read(nd_pass pass, uint32_t queue, nd_reading *reading, nd_pass *back);
 
 /* Writes where the table of a pass lies, and gives the pass back as it is: two tables that are there lie at two places. It
  * answers 0, or 51 where the pass is empty. */
-uint32_t nd_pass_table(nd_pass pass, nd_table *table, nd_pass *back);
+ND_MUST_USE uint32_t nd_pass_table(nd_pass pass, nd_table *table, nd_pass *back);
 
 /* Afterwards what one of the two has seen is a beginning of what the other has. */
 void nd_pass_meet(nd_pass first, nd_pass second, nd_pass *first_back, nd_pass *second_back);
 
 /* The first pass takes in the second, with those that it gathered. It answers 0, and the second is spent; or 42 where memory
  * was refused, and both are given back as they were. */
-uint32_t nd_pass_gather(nd_pass first, nd_pass second, nd_pass *first_back, nd_pass *second_back);
+ND_MUST_USE uint32_t nd_pass_gather(nd_pass first, nd_pass second, nd_pass *first_back, nd_pass *second_back);
 
 /* Closes the table by a pass that has gathered all others, and writes the last sums of each runqueue, as many as there is
  * room for: those of the book after the whole history. It answers 0, and the pass is spent. Where it is refused nothing is
  * written and the pass is given back: 26 where a pass is not gathered, 42 where memory was refused. Where there is no memory
  * even to give it back the table is freed. */
-uint32_t nd_table_close(nd_pass pass, nd_reading *readings, size_t reading_count, nd_pass *back);
+ND_MUST_USE uint32_t nd_table_close(nd_pass pass, nd_reading *readings, size_t reading_count, nd_pass *back);
 
 /* Frees a pass with those that it gathered, and the table with its last one. It does nothing with an empty one. */
 void nd_pass_free(nd_pass pass);
 
 /* The same calls, which take a pass where it stands and put it back. */
-static inline nd_pass nd_taken(nd_pass *pass) {
+ND_MUST_USE static inline nd_pass nd_taken(nd_pass *pass) {
     nd_pass it = *pass;
     pass->at = NULL;
     return it;
 }
 
-static inline uint32_t nd_part(nd_pass *pass, nd_pass *part) { return nd_pass_part(nd_taken(pass), pass, part); }
+ND_MUST_USE static inline uint32_t nd_part(nd_pass *pass, nd_pass *part) { return nd_pass_part(nd_taken(pass), pass, part); }
 
 /* (a pass that comes back as it was is not written, so that threads whose passes lie side by side do not wait for each other) */
-static inline nd_reply nd_call(nd_pass *pass, uint32_t task, nd_op op, uint8_t tries) {
+ND_MUST_USE static inline nd_reply nd_call(nd_pass *pass, uint32_t task, nd_op op, uint8_t tries) {
     nd_pass it = *pass, back;
     nd_reply reply = nd_pass_apply(it, task, op, tries, &back);
     if (back.at != it.at)
@@ -132,31 +135,33 @@ static inline nd_reply nd_call(nd_pass *pass, uint32_t task, nd_op op, uint8_t t
     return reply;
 }
 
-static inline nd_claim nd_claimed(nd_claim *claim) {
+ND_MUST_USE static inline nd_claim nd_claimed(nd_claim *claim) {
     nd_claim it = *claim;
     claim->at = NULL;
     return it;
 }
 
-static inline nd_reply nd_start(nd_pass *pass, uint32_t task, nd_op op, nd_claim *claim) {
+ND_MUST_USE static inline nd_reply nd_start(nd_pass *pass, uint32_t task, nd_op op, nd_claim *claim) {
     return nd_pass_start(nd_taken(pass), task, op, pass, claim);
 }
 
-static inline nd_reply nd_finish(nd_claim *claim, uint8_t tries, nd_pass *pass) {
+ND_MUST_USE static inline nd_reply nd_finish(nd_claim *claim, uint8_t tries, nd_pass *pass) {
     return nd_claim_finish(nd_claimed(claim), tries, pass, claim);
 }
 
 /* The record of the task that a claim has. */
-static inline uint32_t nd_claim_task(nd_claim *claim, nd_task *task) { return nd_claim_record(nd_claimed(claim), task, claim); }
+ND_MUST_USE static inline uint32_t nd_claim_task(nd_claim *claim, nd_task *task) {
+    return nd_claim_record(nd_claimed(claim), task, claim);
+}
 
 static inline void nd_cancel(nd_claim *claim, nd_pass *pass) { nd_claim_cancel(nd_claimed(claim), pass); }
 
-static inline uint32_t nd_read(nd_pass *pass, uint32_t queue, nd_reading *reading) {
+ND_MUST_USE static inline uint32_t nd_read(nd_pass *pass, uint32_t queue, nd_reading *reading) {
     return nd_pass_read(nd_taken(pass), queue, reading, pass);
 }
 
 /* 0 where two passes are there and of one table, else 51 or 53. A pass beside itself is 51. */
-static inline uint32_t nd_apart(nd_pass *first, nd_pass *second) {
+ND_MUST_USE static inline uint32_t nd_apart(nd_pass *first, nd_pass *second) {
     nd_table one, other;
     if (first == second || nd_pass_table(nd_taken(first), &one, first) || nd_pass_table(nd_taken(second), &other, second))
         return ND_EMPTY;
@@ -166,7 +171,7 @@ static inline uint32_t nd_apart(nd_pass *first, nd_pass *second) {
 }
 
 /* It answers 0, 51 or 53. */
-static inline uint32_t nd_meet(nd_pass *first, nd_pass *second) {
+ND_MUST_USE static inline uint32_t nd_meet(nd_pass *first, nd_pass *second) {
     uint32_t fault = nd_apart(first, second);
     if (fault == ND_DONE) {
         nd_pass one = nd_taken(first), other = nd_taken(second);
@@ -176,16 +181,17 @@ static inline uint32_t nd_meet(nd_pass *first, nd_pass *second) {
 }
 
 /* It answers 0, 42, 51 or 53. */
-static inline uint32_t nd_gather(nd_pass *first, nd_pass *second) {
+ND_MUST_USE static inline uint32_t nd_gather(nd_pass *first, nd_pass *second) {
     nd_pass one, other;
     uint32_t fault = nd_apart(first, second);
     if (fault != ND_DONE)
         return fault;
-    one = nd_taken(first), other = nd_taken(second);
+    one = nd_taken(first);
+    other = nd_taken(second);
     return nd_pass_gather(one, other, first, second);
 }
 
-static inline uint32_t nd_close(nd_pass *pass, nd_reading *readings, size_t reading_count) {
+ND_MUST_USE static inline uint32_t nd_close(nd_pass *pass, nd_reading *readings, size_t reading_count) {
     return nd_table_close(nd_taken(pass), readings, reading_count, pass);
 }
 

@@ -2,7 +2,8 @@
 
 neddwyrol.h says what each call promises. A Book stands over two arrays, one of tasks and one of runqueues, which are read
 directly: book.queues[0].running_bw. No call asks anything of the numbers that it is given. Moments, runs, runtimes,
-periods, budgets and deadlines have one unit, which the caller chooses; bandwidths are in 1/2^20.
+periods, budgets and deadlines have one unit, which the caller chooses; bandwidths are in 1/2^20. Arguments may be given by
+name: book.block(task=0, queue=0, moment=2).
 
 The library is the file that NEDDWYROL_SO names, or else libneddwyrol.so.1: beside this module, in the lib of the prefix that
 it was installed below, in out/library of the repository, or where the loader finds it.
@@ -27,7 +28,7 @@ AWAY, CONTENDING, NON_CONTENDING, INACTIVE, GONE_FOR_GOOD = range(5)
 JOIN, WAKE, BLOCK, LEAVE, TIMER, EXIT, CHARGE, RETUNE, MOVE = range(1, 10)
 
 # kinds of events
-CALL, READING = 1, 2
+CALL, READING, REBASE = 1, 2, 3
 
 _OTHERS = set(globals())
 
@@ -39,10 +40,10 @@ GONE, NOT_ON, ALREADY_ON, ELSEWHERE, ALREADY_CONTENDING, NOT_CONTENDING, STILL_C
 STILL_ACTIVE, WORN, STALE, EARLY, FULL, DEADLINE_OVERFLOW = range(16, 22)
 BUDGET_OUT_OF_RANGE, MOMENT_OUT_OF_RANGE, RUNNING_OUT_OF_RANGE, COUNT_OUT_OF_RANGE = range(60, 64)
 QUEUE_OUT_OF_RANGE, WRONG_RUNNING_BW, WRONG_THIS_BW, OVERFULL, STATE_OUT_OF_RANGE = range(64, 69)
-NO_TASK, NO_OP, DAMAGED, NOBODY = range(70, 74)
+NO_TASK, NO_OP, DAMAGED, NOBODY, TOO_FAR = range(70, 75)
 
 # what is granted
-JOINED, WOKEN, WAITING, ASLEEP, LEFT, RETIRED, ENDED, CHARGED, RETUNED, MOVED = range(101, 111)
+JOINED, WOKEN, WAITING, ASLEEP, LEFT, RETIRED, ENDED, CHARGED, RETUNED, MOVED, REBASED = range(101, 112)
 
 # the name of each of these, and of those that the shared table adds, which C and Rust have
 _NAMES = {number: name for name, number in globals().items() if name not in _OTHERS and name[0].isupper()}
@@ -95,7 +96,13 @@ class Reply(_Numbers):
 
     @property
     def granted(self):
-        return self.kind >= 101
+        return self.kind >= JOINED
+
+    def or_fault(self):
+        """The reply, where the op was granted. Else a Fault is raised, whose number is the reply's kind."""
+        if not self.granted:
+            raise Fault("refused", self.kind)
+        return self
 
 
 class Ask(_Numbers):
@@ -105,7 +112,7 @@ class Ask(_Numbers):
 
 
 class Event(_Numbers):
-    """An event of a recorded history: a call with its reply, or a reading."""
+    """An event of a recorded history: a call with its reply, a reading, or a rebase with its reply."""
 
     _fields_ = [
         ("kind", c_uint32),
@@ -124,6 +131,10 @@ class Event(_Numbers):
     @classmethod
     def reading(cls, queue, running_bw, this_bw):
         return cls(READING, 0, queue, Op(), running_bw, this_bw)
+
+    @classmethod
+    def rebase(cls, by, reply):
+        return cls(REBASE, 0, by, Op(), 0, 0, reply)
 
 
 class Params(_Numbers):
@@ -161,6 +172,8 @@ CALLS = {
     "nd_open_fault": (c_uint32, _TASKS + _QUEUES + [POINTER(c_uint32)]),
     "nd_audit_fault": (c_uint32, _TASKS + _QUEUES + [POINTER(c_uint32)]),
     "nd_check": (c_size_t, _TASKS + _QUEUES + [POINTER(Event), c_size_t]),
+    "nd_rebase": (Reply, _TASKS + _QUEUES + [c_uint32]),
+    "nd_rebase_limit": (c_uint32, _TASKS + _QUEUES + [POINTER(c_uint32)]),
     "nd_params_fault": (c_uint32, [Params]),
     "nd_capacity_fault": (c_uint32, [Capacity]),
     "nd_bw": (c_uint32, [Params]),
@@ -328,6 +341,17 @@ class Book:
         """What audit() answers, and which task or runqueue has the fault."""
         at = c_uint32()
         return _lib.nd_audit_fault(*self._memory(), byref(at)), at.value
+
+    def rebase(self, by):
+        """Moves the origin of time: what was the moment `by` is the moment 0 from then on. neddwyrol.h says what a rebase changes,
+        and which timers have to be dropped before."""
+        return _lib.nd_rebase(*self._memory(), _u32(by))
+
+    def rebase_limit(self):
+        """The last moment that a rebase may make the moment 0."""
+        by = c_uint32()
+        _unless("nd_rebase_limit", _lib.nd_rebase_limit(*self._memory(), byref(by)))
+        return by.value
 
     def check(self, events):
         """Replays a recorded history, a list of Event: how many events the book gives."""

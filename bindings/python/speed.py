@@ -11,7 +11,7 @@ OPS = 200_000
 def book_of_8():
     book = nd.Book([(100, 1000)] * 8, [(996147, 0)])
     for task in range(8):
-        book.join(task, 0, 0)
+        book.join(task, 0, 0).or_fault()
     return book
 
 

@@ -33,6 +33,24 @@ class Books(unittest.TestCase):
         self.assertEqual([book.exit(2).kind, book.join(1, 2, 0).kind], [nd.NO_TASK, nd.NO_OP])
         self.assertFalse(book.exit(2).granted)
 
+    def test_arguments_by_name(self):
+        book = nd.Book(tasks=[HALF, HALF], queues=[(nd.UNIT, 0), (nd.UNIT, 0)])
+        book.join(moment=0, queue=0, task=0).or_fault()
+        book.move(queue=1, task=0).or_fault()
+        book.run(run=2, queue=1, task=0).or_fault()
+        waits = book.block(task=0, queue=1, moment=2).or_fault()
+        self.assertEqual((waits.kind, waits.deadline, book.next_timer(queue=1)), (nd.WAITING, 4, (0, 4)))
+        book.timer(moment=4, ticket=waits.number, task=0).or_fault()
+        book.wake(task=0, queue=1, moment=8).or_fault()
+        self.assertEqual((book.earliest(queue=1), book.exhaustion(task=0)), ((0, 16), 4))
+        book.join(task=1, queue=0, moment=8).or_fault()
+        book.block(task=1, queue=0, moment=8).or_fault()
+        replies = [book.retune(task=1, runtime=1, period=8), book.leave(task=1), book.exit(task=1)]
+        self.assertEqual([reply.or_fault().kind for reply in replies], [nd.RETUNED, nd.LEFT, nd.ENDED])
+        with self.assertRaisesRegex(nd.Fault, "^refused: 9 GONE$") as fault:
+            book.join(task=1, queue=0, moment=8).or_fault()
+        self.assertEqual(fault.exception.number, nd.GONE)
+
     def test_batch(self):
         book = nd.Book([HALF, HALF], [(nd.UNIT, 0)])
         asks = nd.asks_of(array("I", [0, nd.JOIN, 0, 0, 1, nd.JOIN, 0, 0, 0, nd.CHARGE, 0, 2]))
@@ -61,9 +79,9 @@ class Books(unittest.TestCase):
 
     def test_snapshots_and_damage(self):
         book = nd.Book([HALF], [(nd.UNIT, 0)])
-        book.join(0, 0, 0)
+        book.join(0, 0, 0).or_fault()
         saved = book.copy()
-        book.block(0, 0, 0)
+        book.block(0, 0, 0).or_fault()
         self.assertEqual((saved.tasks[0].state, book.tasks[0].state), (nd.CONTENDING, nd.INACTIVE))
         saved.queues[0].running_bw = 0
         self.assertEqual((saved.audit(), saved.audit_fault()), (nd.WRONG_RUNNING_BW, (nd.WRONG_RUNNING_BW, 0)))
@@ -74,7 +92,7 @@ class Books(unittest.TestCase):
         book = nd.Book([HALF, HALF, (1, 8)], [(nd.UNIT, 0), (nd.UNIT // 2, 0)])
         self.assertEqual([book.move(0, 0).kind, book.join(0, 0, 0).kind, book.join(2, 0, 0).kind], [nd.NOT_ON, nd.JOINED, nd.JOINED])
         self.assertEqual((book.earliest(0), book.earliest(1), book.next_timer(0)), ((0, 8), None, None))
-        book.run(0, 0, 1)
+        book.run(0, 0, 1).or_fault()
         before = (book.tasks[0].budget, book.tasks[0].deadline)
         reply = book.move(0, 1)
         self.assertEqual((reply.kind, reply.number, (book.tasks[0].budget, book.tasks[0].deadline)), (nd.MOVED, 0, before))
@@ -86,6 +104,27 @@ class Books(unittest.TestCase):
         self.assertEqual((book.next_timer(1), book.move(0, 0).kind), ((0, waits.deadline), nd.NOT_CONTENDING))
         with self.assertRaises(nd.Fault):
             book.exhaustion(0)
+
+    def test_origins(self):
+        book, history = nd.Book([HALF, HALF], [(nd.UNIT, 0)]), []
+        self.assertEqual((book.rebase_limit(), book.rebase(by=2**32 - 1).kind), (2**32 - 1, nd.REBASED))
+        for task, op in [(0, nd.Op(nd.JOIN, 0, 10)), (1, nd.Op(nd.JOIN, 0, 10)), (0, nd.Op(nd.CHARGE, 0, 2)), (0, nd.Op(nd.BLOCK, 0, 12))]:
+            history.append(nd.Event.call(task, op, book.apply(task, op).or_fault()))
+        self.assertEqual(book.rebase_limit(), 14)
+        for by in 15, 12:
+            history.append(nd.Event.rebase(by, book.rebase(by)))
+        self.assertEqual([(it.reply.kind, it.reply.number) for it in history[4:]], [(nd.TOO_FAR, 0), (nd.REBASED, 0)])
+        self.assertEqual([(it.deadline, it.count) for it in book.tasks], [(6, 1), (6, 0)])
+        self.assertEqual([book.timer(task=0, ticket=1, moment=it).kind for it in (1, 2)], [nd.EARLY, nd.RETIRED])
+        book.rebase(by=6).or_fault()
+        self.assertEqual([(it.deadline, it.count) for it in book.tasks], [(0, 0), (0, 0)])
+        self.assertEqual(nd.Book([HALF, HALF], [(nd.UNIT, 0)]).check(history), 6)
+        history[5].reply.kind = nd.TOO_FAR
+        self.assertEqual(nd.Book([HALF, HALF], [(nd.UNIT, 0)]).check(history), 5)
+        book.tasks[0].budget = 9
+        self.assertEqual(book.rebase(0).kind, nd.DAMAGED)
+        with self.assertRaisesRegex(nd.Fault, "^nd_rebase_limit: 72 DAMAGED$"):
+            book.rebase_limit()
 
     def test_history(self):
         book, history = nd.Book([HALF], [(nd.UNIT, 0)]), []

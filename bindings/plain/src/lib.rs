@@ -1,5 +1,8 @@
 //! The book in plain Rust, without proofs: the same numbers are kept, and the logic is its own.
 
+pub mod endless;
+pub mod random;
+
 #[derive(Clone, Copy)]
 pub struct Queue {
     pub umax: u32,

@@ -29,6 +29,7 @@ pub const MOVE: u32 = 9;
 
 pub const CALL: u32 = 1;
 pub const READING: u32 = 2;
+pub const REBASE: u32 = 3;
 
 pub const DONE: u32 = 0;
 pub const PERIOD_OUT_OF_RANGE: u32 = 1;
@@ -65,6 +66,7 @@ pub const NO_TASK: u32 = 70;
 pub const NO_OP: u32 = 71;
 pub const DAMAGED: u32 = 72;
 pub const NOBODY: u32 = 73;
+pub const TOO_FAR: u32 = 74;
 pub const JOINED: u32 = 101;
 pub const WOKEN: u32 = 102;
 pub const WAITING: u32 = 103;
@@ -75,6 +77,7 @@ pub const ENDED: u32 = 107;
 pub const CHARGED: u32 = 108;
 pub const RETUNED: u32 = 109;
 pub const MOVED: u32 = 110;
+pub const REBASED: u32 = 111;
 
 /// The name of a fault or of a reply's kind; "UNKNOWN" where the number is none.
 pub const fn name(kind: u32) -> &'static str {
@@ -114,6 +117,7 @@ pub const fn name(kind: u32) -> &'static str {
         NO_OP => "NO_OP",
         DAMAGED => "DAMAGED",
         NOBODY => "NOBODY",
+        TOO_FAR => "TOO_FAR",
         JOINED => "JOINED",
         WOKEN => "WOKEN",
         WAITING => "WAITING",
@@ -124,6 +128,7 @@ pub const fn name(kind: u32) -> &'static str {
         CHARGED => "CHARGED",
         RETUNED => "RETUNED",
         MOVED => "MOVED",
+        REBASED => "REBASED",
         // (of the shared table)
         23 => "NO_PASS",
         24 => "TOO_MANY_PASSES",

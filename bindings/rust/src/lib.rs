@@ -1,8 +1,8 @@
 //! The bandwidth accounting of Linux SCHED_DEADLINE (GRUB, greedy reclamation of unused bandwidth), over Neddwyrol's
 //! proved library for C. `neddwyrol.h` says what each call promises.
 //!
-//! A [`Book`] stands over an array of tasks and one of runqueues that its caller owns. They are read directly, and copied
-//! as a snapshot; only a `Book` writes them. No call asks anything of the numbers that it is given, so nothing here can
+//! A [`Book`] stands over an array of [`TaskRecord`] and one of [`RunqueueRecord`] that its caller owns. They are read directly,
+//! and copied as a snapshot; only a `Book` writes them. No call asks anything of the numbers that it is given, so nothing here can
 //! break memory. Moments, runs, runtimes, periods, budgets and deadlines have one unit, which the caller chooses;
 //! bandwidths are in 1/2^20.
 #![no_std]
@@ -11,10 +11,22 @@
 pub mod codes;
 mod raw;
 
+/// The number of a task, from 0.
+#[derive(Clone, Copy, Debug, PartialEq, Eq, PartialOrd, Ord, Hash)]
+pub struct Task(pub u32);
+
+/// The number of a runqueue, from 0.
+#[derive(Clone, Copy, Debug, PartialEq, Eq, PartialOrd, Ord, Hash)]
+pub struct Runqueue(pub u32);
+
+/// A moment, in the unit of the book.
+#[derive(Clone, Copy, Debug, PartialEq, Eq, PartialOrd, Ord, Hash)]
+pub struct Moment(pub u32);
+
 /// What is kept of a task. Before the opening its runtime and period alone count.
 #[repr(C)]
 #[derive(Clone, Copy, Debug, Default, PartialEq, Eq)]
-pub struct Task {
+pub struct TaskRecord {
     pub runtime: u32,
     pub period: u32,
     pub budget: u32,
@@ -27,7 +39,7 @@ pub struct Task {
 /// A runqueue. Before the opening its umax and uextra alone count.
 #[repr(C)]
 #[derive(Clone, Copy, Debug, Default, PartialEq, Eq)]
-pub struct Runqueue {
+pub struct RunqueueRecord {
     pub umax: u32,
     pub uextra: u32,
     pub running_bw: u32,
@@ -37,13 +49,21 @@ pub struct Runqueue {
 /// What is asked for a task.
 #[repr(C)]
 #[derive(Clone, Copy, Debug, Default, PartialEq, Eq)]
+#[must_use = "`Book::apply` asks it"]
 pub struct Op {
     pub kind: u32,
     pub a: u32,
     pub b: u32,
 }
 
-/// What is answered.
+/// What is answered. A compiler warns where one is dropped:
+///
+/// ```compile_fail
+/// #![deny(unused_must_use)]
+/// fn drops(book: &mut neddwyrol::Book) {
+///     book.leave(neddwyrol::Task(0));
+/// }
+/// ```
 #[repr(C)]
 #[derive(Clone, Copy, Debug, Default, PartialEq, Eq)]
 pub struct Reply {
@@ -62,7 +82,7 @@ pub struct Ask {
     pub op: Op,
 }
 
-/// An event of a recorded history: a call with its reply, or a reading.
+/// An event of a recorded history: a call with its reply, a reading, or a rebase with its reply.
 #[repr(C)]
 #[derive(Clone, Copy, Debug, Default, PartialEq, Eq)]
 pub struct Event {
@@ -127,47 +147,47 @@ fn unless(fault: u32) -> Result<(), Fault> {
     }
 }
 
-impl Task {
+impl TaskRecord {
     /// A task that reserves this runtime in each period, before the opening.
-    pub fn new(runtime: u32, period: u32) -> Task {
-        Task { runtime, period, ..Task::default() }
+    pub fn new(runtime: u32, period: u32) -> TaskRecord {
+        TaskRecord { runtime, period, ..TaskRecord::default() }
     }
 }
 
-impl Runqueue {
+impl RunqueueRecord {
     /// A runqueue that admits so much bandwidth, of which running tasks may reclaim `uextra` at all times.
-    pub fn new(umax: u32, uextra: u32) -> Runqueue {
-        Runqueue { umax, uextra, ..Runqueue::default() }
+    pub fn new(umax: u32, uextra: u32) -> RunqueueRecord {
+        RunqueueRecord { umax, uextra, ..RunqueueRecord::default() }
     }
 }
 
 impl Op {
-    pub fn join(queue: u32, moment: u32) -> Op {
-        Op { kind: codes::JOIN, a: queue, b: moment }
+    pub fn join(queue: Runqueue, moment: Moment) -> Op {
+        Op { kind: codes::JOIN, a: queue.0, b: moment.0 }
     }
 
-    pub fn wake(queue: u32, moment: u32) -> Op {
-        Op { kind: codes::WAKE, a: queue, b: moment }
+    pub fn wake(queue: Runqueue, moment: Moment) -> Op {
+        Op { kind: codes::WAKE, a: queue.0, b: moment.0 }
     }
 
-    pub fn block(queue: u32, moment: u32) -> Op {
-        Op { kind: codes::BLOCK, a: queue, b: moment }
+    pub fn block(queue: Runqueue, moment: Moment) -> Op {
+        Op { kind: codes::BLOCK, a: queue.0, b: moment.0 }
     }
 
     pub fn leave() -> Op {
         Op { kind: codes::LEAVE, a: 0, b: 0 }
     }
 
-    pub fn timer(ticket: u32, moment: u32) -> Op {
-        Op { kind: codes::TIMER, a: ticket, b: moment }
+    pub fn timer(ticket: u32, moment: Moment) -> Op {
+        Op { kind: codes::TIMER, a: ticket, b: moment.0 }
     }
 
     pub fn exit() -> Op {
         Op { kind: codes::EXIT, a: 0, b: 0 }
     }
 
-    pub fn charge(queue: u32, run: u32) -> Op {
-        Op { kind: codes::CHARGE, a: queue, b: run }
+    pub fn charge(queue: Runqueue, run: u32) -> Op {
+        Op { kind: codes::CHARGE, a: queue.0, b: run }
     }
 
     pub fn retune(runtime: u32, period: u32) -> Op {
@@ -177,59 +197,82 @@ impl Op {
 
 impl Op {
     /// A ready task goes to another runqueue as it is.
-    pub fn move_to(queue: u32) -> Op {
-        Op { kind: codes::MOVE, a: queue, b: 0 }
+    pub fn move_to(queue: Runqueue) -> Op {
+        Op { kind: codes::MOVE, a: queue.0, b: 0 }
+    }
+}
+
+impl Ask {
+    pub fn new(task: Task, op: Op) -> Ask {
+        Ask { task: task.0, op }
     }
 }
 
 impl Reply {
     /// Whether the op was granted. Else nothing was written.
+    #[must_use]
     pub fn is_granted(&self) -> bool {
-        self.kind >= 101
+        self.kind >= codes::JOINED
+    }
+
+    /// The reply, where the op was granted; else its kind as a fault.
+    pub fn granted(self) -> Result<Reply, Fault> {
+        if self.is_granted() {
+            Ok(self)
+        } else {
+            Err(Fault(self.kind))
+        }
     }
 }
 
 impl Event {
     /// A call with its reply.
-    pub fn call(task: u32, op: Op, reply: Reply) -> Event {
-        Event { kind: codes::CALL, number: task, op, reply, ..Event::default() }
+    pub fn call(task: Task, op: Op, reply: Reply) -> Event {
+        Event { kind: codes::CALL, number: task.0, op, reply, ..Event::default() }
+    }
+
+    /// A rebase with its reply.
+    pub fn rebase(by: Moment, reply: Reply) -> Event {
+        Event { kind: codes::REBASE, number: by.0, reply, ..Event::default() }
     }
 
     /// A reading of a runqueue.
-    pub fn reading(queue: u32, now: Reading) -> Event {
-        Event { kind: codes::READING, number: queue, running_bw: now.running_bw, this_bw: now.this_bw, ..Event::default() }
+    pub fn reading(queue: Runqueue, now: Reading) -> Event {
+        Event { kind: codes::READING, number: queue.0, running_bw: now.running_bw, this_bw: now.this_bw, ..Event::default() }
     }
 }
 
 /// A book over its caller's memory.
 pub struct Book<'a> {
-    tasks: &'a mut [Task],
-    queues: &'a mut [Runqueue],
+    tasks: &'a mut [TaskRecord],
+    queues: &'a mut [RunqueueRecord],
 }
 
 impl<'a> Book<'a> {
     /// Makes a book of the reservations and constants in the memory, where every task is away. A fault, 1 to 8, leaves it
     /// as it was.
-    pub fn open(tasks: &'a mut [Task], queues: &'a mut [Runqueue]) -> Result<Book<'a>, Fault> {
+    pub fn open(tasks: &'a mut [TaskRecord], queues: &'a mut [RunqueueRecord]) -> Result<Book<'a>, Fault> {
         // SAFETY: both point to that many structs, which nobody else has during the call. So in every call below.
         unless(unsafe { raw::nd_open(tasks.as_mut_ptr(), tasks.len(), queues.as_mut_ptr(), queues.len()) })?;
         Ok(Book { tasks, queues })
     }
 
     /// The book that stands in the memory already, as in a snapshot. A fault says why there is none.
-    pub fn resume(tasks: &'a mut [Task], queues: &'a mut [Runqueue]) -> Result<Book<'a>, Fault> {
+    pub fn resume(tasks: &'a mut [TaskRecord], queues: &'a mut [RunqueueRecord]) -> Result<Book<'a>, Fault> {
         audit(tasks, queues)?;
         Ok(Book { tasks, queues })
     }
 
     /// Asks an op for a task.
+    #[must_use = "the op may be refused"]
     #[inline]
-    pub fn apply(&mut self, task: u32, op: Op) -> Reply {
+    pub fn apply(&mut self, task: Task, op: Op) -> Reply {
         // SAFETY: as above.
-        unsafe { raw::nd_apply(self.tasks.as_mut_ptr(), self.tasks.len(), self.queues.as_mut_ptr(), self.queues.len(), task, op) }
+        unsafe { raw::nd_apply(self.tasks.as_mut_ptr(), self.tasks.len(), self.queues.as_mut_ptr(), self.queues.len(), task.0, op) }
     }
 
     /// Asks ops one after another, as many as there is room for replies, and answers how many that were.
+    #[must_use = "it answers how many ops were asked"]
     pub fn apply_all(&mut self, asks: &[Ask], replies: &mut [Reply]) -> usize {
         let (tasks, queues) = (&mut *self.tasks, &mut *self.queues);
         // SAFETY: as above.
@@ -247,92 +290,122 @@ impl<'a> Book<'a> {
         }
     }
 
+    /// Moves the origin of time: what was this moment is the moment 0 from then on. `neddwyrol.h` says what a rebase changes, and
+    /// which timers have to be dropped before.
+    #[must_use = "the rebase may be refused"]
+    pub fn rebase(&mut self, by: Moment) -> Reply {
+        // SAFETY: as above.
+        unsafe { raw::nd_rebase(self.tasks.as_mut_ptr(), self.tasks.len(), self.queues.as_mut_ptr(), self.queues.len(), by.0) }
+    }
+
+    /// The last moment that a rebase may make the moment 0.
+    pub fn rebase_limit(&self) -> Result<Moment, Fault> {
+        let mut by = 0;
+        // SAFETY: both point to that many structs, which are only read, and the number is its own.
+        unless(unsafe { raw::nd_rebase_limit(self.tasks.as_ptr(), self.tasks.len(), self.queues.as_ptr(), self.queues.len(), &mut by) })?;
+        Ok(Moment(by))
+    }
+
     /// Replays a recorded history: how many events the book gives.
+    #[must_use = "it answers how many events the book gives"]
     pub fn check(&mut self, events: &[Event]) -> usize {
         let (tasks, queues) = (&mut *self.tasks, &mut *self.queues);
         // SAFETY: as above.
         unsafe { raw::nd_check(tasks.as_mut_ptr(), tasks.len(), queues.as_mut_ptr(), queues.len(), events.as_ptr(), events.len()) }
     }
 
-    pub fn join(&mut self, task: u32, queue: u32, moment: u32) -> Reply {
+    #[must_use = "the op may be refused"]
+    pub fn join(&mut self, task: Task, queue: Runqueue, moment: Moment) -> Reply {
         self.apply(task, Op::join(queue, moment))
     }
 
-    pub fn wake(&mut self, task: u32, queue: u32, moment: u32) -> Reply {
+    #[must_use = "the op may be refused"]
+    pub fn wake(&mut self, task: Task, queue: Runqueue, moment: Moment) -> Reply {
         self.apply(task, Op::wake(queue, moment))
     }
 
-    pub fn block(&mut self, task: u32, queue: u32, moment: u32) -> Reply {
+    #[must_use = "the op may be refused"]
+    pub fn block(&mut self, task: Task, queue: Runqueue, moment: Moment) -> Reply {
         self.apply(task, Op::block(queue, moment))
     }
 
-    pub fn leave(&mut self, task: u32) -> Reply {
+    #[must_use = "the op may be refused"]
+    pub fn leave(&mut self, task: Task) -> Reply {
         self.apply(task, Op::leave())
     }
 
-    pub fn timer(&mut self, task: u32, ticket: u32, moment: u32) -> Reply {
+    #[must_use = "the op may be refused"]
+    pub fn timer(&mut self, task: Task, ticket: u32, moment: Moment) -> Reply {
         self.apply(task, Op::timer(ticket, moment))
     }
 
-    pub fn exit(&mut self, task: u32) -> Reply {
+    #[must_use = "the op may be refused"]
+    pub fn exit(&mut self, task: Task) -> Reply {
         self.apply(task, Op::exit())
     }
 
     /// Charges a run of a task that contends.
-    pub fn run(&mut self, task: u32, queue: u32, run: u32) -> Reply {
+    #[must_use = "the op may be refused"]
+    pub fn run(&mut self, task: Task, queue: Runqueue, run: u32) -> Reply {
         self.apply(task, Op::charge(queue, run))
     }
 
-    pub fn retune(&mut self, task: u32, runtime: u32, period: u32) -> Reply {
+    #[must_use = "the op may be refused"]
+    pub fn retune(&mut self, task: Task, runtime: u32, period: u32) -> Reply {
         self.apply(task, Op::retune(runtime, period))
     }
 
     /// A contending task goes to another runqueue, with budget, deadline and count as they are.
-    pub fn move_to(&mut self, task: u32, queue: u32) -> Reply {
+    #[must_use = "the op may be refused"]
+    pub fn move_to(&mut self, task: Task, queue: Runqueue) -> Reply {
         self.apply(task, Op::move_to(queue))
     }
 
     /// The contending task of a runqueue with the earliest deadline, and that deadline.
-    pub fn earliest(&self, queue: u32) -> Option<(u32, u32)> {
+    #[must_use]
+    pub fn earliest(&self, queue: Runqueue) -> Option<(Task, Moment)> {
         let (mut task, mut deadline) = (0, 0);
         // SAFETY: the tasks are only read, and the numbers are its own. So in the next call.
-        let fault = unsafe { raw::nd_earliest(self.tasks.as_ptr(), self.tasks.len(), queue, &mut task, &mut deadline) };
-        (fault == codes::DONE).then_some((task, deadline))
+        let fault = unsafe { raw::nd_earliest(self.tasks.as_ptr(), self.tasks.len(), queue.0, &mut task, &mut deadline) };
+        (fault == codes::DONE).then_some((Task(task), Moment(deadline)))
     }
 
     /// The task of a runqueue that waits for the earliest 0-lag time, and that moment. The ticket of its timer is its count.
-    pub fn next_timer(&self, queue: u32) -> Option<(u32, u32)> {
+    #[must_use]
+    pub fn next_timer(&self, queue: Runqueue) -> Option<(Task, Moment)> {
         let (mut task, mut moment) = (0, 0);
         // SAFETY: as above.
-        let fault = unsafe { raw::nd_next_timer(self.tasks.as_ptr(), self.tasks.len(), queue, &mut task, &mut moment) };
-        (fault == codes::DONE).then_some((task, moment))
+        let fault = unsafe { raw::nd_next_timer(self.tasks.as_ptr(), self.tasks.len(), queue.0, &mut task, &mut moment) };
+        (fault == codes::DONE).then_some((Task(task), Moment(moment)))
     }
 
     /// After how long a run the budget of a contending task is used up, by the sums of now. None where it does not contend.
-    pub fn exhaustion(&self, task: u32) -> Option<u64> {
-        let held = self.tasks.get(task as usize).filter(|it| it.state == codes::CONTENDING)?;
-        let Runqueue { umax, uextra, running_bw, this_bw } = *self.queues.get(held.queue as usize)?;
+    #[must_use]
+    pub fn exhaustion(&self, task: Task) -> Option<u64> {
+        let held = self.tasks.get(task.0 as usize).filter(|it| it.state == codes::CONTENDING)?;
+        let RunqueueRecord { umax, uextra, running_bw, this_bw } = *self.queues.get(held.queue as usize)?;
         let bw = Params { runtime: held.runtime, period: held.period }.bw();
         exhaustion(held.budget, bw, Capacity { umax, uextra }, Reading { running_bw, this_bw }).ok()
     }
 
-    pub fn tasks(&self) -> &[Task] {
+    pub fn tasks(&self) -> &[TaskRecord] {
         self.tasks
     }
 
-    pub fn queues(&self) -> &[Runqueue] {
+    pub fn queues(&self) -> &[RunqueueRecord] {
         self.queues
     }
 
     /// The sums of a runqueue, where it is there.
-    pub fn reading(&self, queue: usize) -> Option<Reading> {
-        let Runqueue { running_bw, this_bw, .. } = *self.queues.get(queue)?;
+    #[must_use]
+    pub fn reading(&self, queue: Runqueue) -> Option<Reading> {
+        let RunqueueRecord { running_bw, this_bw, .. } = *self.queues.get(queue.0 as usize)?;
         Some(Reading { running_bw, this_bw })
     }
 }
 
 /// Whether the memory is a book; a fault says why it is none.
-pub fn audit(tasks: &[Task], queues: &[Runqueue]) -> Result<(), Fault> {
+pub fn audit(tasks: &[TaskRecord], queues: &[RunqueueRecord]) -> Result<(), Fault> {
     // SAFETY: both point to that many structs, which are only read.
     unless(unsafe { raw::nd_audit(tasks.as_ptr(), tasks.len(), queues.as_ptr(), queues.len()) })
 }
@@ -345,7 +418,7 @@ pub struct FaultAt {
 }
 
 /// What a `Book::open` of this memory would answer, with the task or runqueue that has the fault.
-pub fn open_fault(tasks: &[Task], queues: &[Runqueue]) -> Result<(), FaultAt> {
+pub fn open_fault(tasks: &[TaskRecord], queues: &[RunqueueRecord]) -> Result<(), FaultAt> {
     let mut number = 0;
     // SAFETY: both point to that many structs, which are only read, and the number is its own. So in the next call.
     let fault = unsafe { raw::nd_open_fault(tasks.as_ptr(), tasks.len(), queues.as_ptr(), queues.len(), &mut number) };
@@ -353,7 +426,7 @@ pub fn open_fault(tasks: &[Task], queues: &[Runqueue]) -> Result<(), FaultAt> {
 }
 
 /// What `audit` answers, with the task or runqueue that has the fault.
-pub fn audit_fault(tasks: &[Task], queues: &[Runqueue]) -> Result<(), FaultAt> {
+pub fn audit_fault(tasks: &[TaskRecord], queues: &[RunqueueRecord]) -> Result<(), FaultAt> {
     let mut number = 0;
     // SAFETY: as above.
     let fault = unsafe { raw::nd_audit_fault(tasks.as_ptr(), tasks.len(), queues.as_ptr(), queues.len(), &mut number) };
@@ -368,6 +441,7 @@ impl Params {
     }
 
     /// The bandwidth, rounded down; 0 where the numbers are no reservation.
+    #[must_use]
     pub fn bw(self) -> u32 {
         // SAFETY: as above.
         unsafe { raw::nd_bw(self) }
@@ -392,10 +466,10 @@ impl Server {
     }
 
     /// The server of a task that wakes at a moment.
-    pub fn woken(self, params: Params, moment: u32) -> Result<Server, Fault> {
+    pub fn woken(self, params: Params, moment: Moment) -> Result<Server, Fault> {
         let mut woken = Server::default();
         // SAFETY: as above.
-        unless(unsafe { raw::nd_woken(self, params, moment, &mut woken) })?;
+        unless(unsafe { raw::nd_woken(self, params, moment.0, &mut woken) })?;
         Ok(woken)
     }
 
@@ -435,6 +509,7 @@ pub struct KernelSums {
 }
 
 /// What a kernel of this version (0x060100 for 6.1) charges for a run of `dt` nanoseconds, in nanoseconds.
+#[must_use]
 pub fn kernel_charge(kernel: u32, dt: u64, bw: u64, sums: KernelSums) -> u64 {
     let KernelSums { this_bw, running_bw, extra_bw, max_bw, bw_ratio } = sums;
     // SAFETY: the call takes numbers alone.

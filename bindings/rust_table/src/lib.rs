@@ -8,7 +8,7 @@ pub mod codes;
 mod raw;
 
 use codes::{BUSY, HELD, LOST};
-use neddwyrol::{codes::DONE, Fault, Op, Reading, Reply, Runqueue, Task};
+use neddwyrol::{codes::DONE, Fault, Op, Reading, Reply, Runqueue, RunqueueRecord, Task, TaskRecord};
 
 /// The right of one thread to make calls, with the passes that it gathered. It may go to another thread. Its table is freed
 /// with the last pass.
@@ -46,6 +46,7 @@ impl Drop for Claim {
 }
 
 /// What came of [`Pass::start`].
+#[must_use = "it has the pass or the claim, which are dropped with it"]
 pub enum Started {
     /// The place, the count, the ticket or an early timer decided the reply. No call was made where it is 70 or 71.
     Answered(Pass, Reply),
@@ -56,6 +57,7 @@ pub enum Started {
 }
 
 /// What came of [`Claim::finish`].
+#[must_use = "it has the pass or the claim, which are dropped with it"]
 pub enum Finished {
     /// The call was made, and the task given back.
     Done(Pass, Reply),
@@ -86,7 +88,7 @@ fn no_claim() -> raw::Claim {
 impl Pass {
     /// Opens a table of these reservations and constants, at most 256 tasks and 64 runqueues, with 1 to 64 passes. The pass has
     /// all others gathered: [`Pass::part`] gives each to a thread. Faults: 1 to 8 as of `Book::open`, and 23 to 25.
-    pub fn open(tasks: &[Task], queues: &[Runqueue], passes: u32) -> Result<Pass, Fault> {
+    pub fn open(tasks: &[TaskRecord], queues: &[RunqueueRecord], passes: u32) -> Result<Pass, Fault> {
         let mut held = nothing();
         // SAFETY: both point to that many structs, which are only read, and the pass owns nothing yet.
         match unsafe { raw::nd_table_open(tasks.as_ptr(), tasks.len(), queues.as_ptr(), queues.len(), passes, &mut held) } {
@@ -130,18 +132,19 @@ impl Pass {
 
     /// Asks an op for a task, as `Book::apply`. No call is made where the kind is 50, another pass has the task, or 52, so many
     /// tries were lost, each to a change of the runqueue's sums. An op that changes no sum needs no try.
-    pub fn apply(&mut self, task: u32, op: Op, tries: u8) -> Reply {
+    #[must_use = "the op may be refused, or not be asked"]
+    pub fn apply(&mut self, task: Task, op: Op, tries: u8) -> Reply {
         let pass = self.taken();
         // SAFETY: as above.
-        unsafe { raw::nd_pass_apply(pass, task, op, tries, &mut self.held) }
+        unsafe { raw::nd_pass_apply(pass, task.0, op, tries, &mut self.held) }
     }
 
     /// The same in two steps: begins a call. It takes the task, unless the place, the count, the ticket or an early timer decides
     /// the reply.
-    pub fn start(mut self, task: u32, op: Op) -> Started {
+    pub fn start(mut self, task: Task, op: Op) -> Started {
         let (pass, mut claim) = (self.taken(), no_claim());
         // SAFETY: as above.
-        let reply = unsafe { raw::nd_pass_start(pass, task, op, &mut self.held, &mut claim) };
+        let reply = unsafe { raw::nd_pass_start(pass, task.0, op, &mut self.held, &mut claim) };
         match reply.kind {
             HELD => Started::Held(Claim { held: claim }),
             BUSY => Started::Busy(self),
@@ -150,10 +153,11 @@ impl Pass {
     }
 
     /// The sums of a runqueue at one moment, where it is there.
-    pub fn read(&mut self, queue: u32) -> Option<Reading> {
+    #[must_use]
+    pub fn read(&mut self, queue: Runqueue) -> Option<Reading> {
         let (pass, mut reading) = (self.taken(), Reading::default());
         // SAFETY: as above.
-        let fault = unsafe { raw::nd_pass_read(pass, queue, &mut reading, &mut self.held) };
+        let fault = unsafe { raw::nd_pass_read(pass, queue.0, &mut reading, &mut self.held) };
         (fault == DONE).then_some(reading)
     }
 
@@ -201,8 +205,9 @@ impl Claim {
     }
 
     /// The task as it is in the history that the pass has seen.
-    pub fn task(&mut self) -> Task {
-        let (claim, mut task) = (self.taken(), Task::default());
+    #[must_use]
+    pub fn task(&mut self) -> TaskRecord {
+        let (claim, mut task) = (self.taken(), TaskRecord::default());
         // SAFETY: the claim is the library's and in no other call; what is written owns nothing before. So in the calls below.
         unsafe { raw::nd_claim_record(claim, &mut task, &mut self.held) };
         task
@@ -221,6 +226,7 @@ impl Claim {
     }
 
     /// Gives the task back: no call was made.
+    #[must_use = "the pass is dropped with it"]
     pub fn cancel(mut self) -> Pass {
         self.given_back()
     }

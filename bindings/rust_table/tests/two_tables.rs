@@ -1,9 +1,10 @@
 //! Passes of two tables are told apart.
-use neddwyrol::Runqueue;
+#![deny(unused_must_use)]
+use neddwyrol::RunqueueRecord;
 use neddwyrol_table::Pass;
 
 fn opened() -> Pass {
-    Pass::open(&[], &[Runqueue::new(1, 1)], 1).unwrap()
+    Pass::open(&[], &[RunqueueRecord::new(1, 1)], 1).unwrap()
 }
 
 #[test]

@@ -1,38 +1,7 @@
 //! Random ops, also out of range, asked of the library and of plain Rust's book: each reply, each sum and each record has
 //! to be the same, and every history has to be found to be the book's. `random OPS` asks about so many.
-use neddwyrol::{audit, codes, Book, Event, Op, Reading, Runqueue, Task};
-use plain::{Op as PlainOp, Params, Place, Queue, Reply, State};
-
-struct Random(u64);
-
-impl Random {
-    fn below(&mut self, n: u32) -> u32 {
-        self.0 ^= self.0 << 13;
-        self.0 ^= self.0 >> 7;
-        self.0 ^= self.0 << 17;
-        (self.0 >> 20) as u32 % n
-    }
-
-    fn one_of<const N: usize>(&mut self, choices: [u32; N]) -> u32 {
-        choices[self.below(N as u32) as usize]
-    }
-
-    fn reservation(&mut self) -> (u32, u32) {
-        loop {
-            let most = self.one_of([10, 1000, 1 << 24]);
-            let period = 1 + self.below(most);
-            let runtime = 1 + self.below(period);
-            if Params::new(runtime, period).is_some() {
-                return (runtime, period);
-            }
-        }
-    }
-
-    fn constants(&mut self) -> (u32, u32) {
-        let umax = 1 + self.below(1 << 20).max(self.below(1 << 20));
-        (umax, self.below(umax + 1))
-    }
-}
+use neddwyrol::{audit, codes, Book, Event, Moment, Op, Reading, Runqueue, RunqueueRecord, Task, TaskRecord};
+use plain::{random::Random, Op as PlainOp, Params, Place, Queue, Reply, State};
 
 fn numbers(reply: Reply) -> (u32, u32, u32, u32, u64) {
     match reply {
@@ -106,19 +75,19 @@ fn next_op(random: &mut Random, tasks: u32, queues: u32, moment: u32, book: &pla
     let ticket = book.records.get(task as usize).map_or(0, |held| held.count).wrapping_sub(u32::from(stale));
     let late = if random.below(200) == 0 { 1 << 31 } else { 0 };
     let op = match random.below(20) {
-        0 | 1 => Op::join(r, moment | late),
-        2..=4 => Op::wake(r, moment),
-        5..=7 => Op::block(r, moment),
+        0 | 1 => Op::join(Runqueue(r), Moment(moment | late)),
+        2..=4 => Op::wake(Runqueue(r), Moment(moment)),
+        5..=7 => Op::block(Runqueue(r), Moment(moment)),
         8 => Op::leave(),
-        9..=11 => Op::timer(ticket, moment | late),
+        9..=11 => Op::timer(ticket, Moment(moment | late)),
         12 if random.below(100) == 0 => Op::exit(),
         13 => {
             let (runtime, period) = random.reservation();
             Op::retune(runtime, if random.below(20) == 0 { 0 } else { period })
         }
         14 if random.below(20) == 0 => Op { kind: 10 + random.below(90), a: r, b: moment },
-        14 | 15 => Op::move_to(r),
-        _ => Op::charge(r, run),
+        14 | 15 => Op::move_to(Runqueue(r)),
+        _ => Op::charge(Runqueue(r), run),
     };
     (task, op)
 }
@@ -128,15 +97,15 @@ fn main() {
     let (mut asked, mut granted, mut outside, mut seed) = (0u64, 0u64, 0u64, 0u64);
     while asked < wanted {
         seed += 1;
-        let mut random = Random(seed.wrapping_mul(0x9E37_79B9_7F4A_7C15) | 1);
+        let mut random = Random::new(seed);
         let (n, m) = (1 + random.below(6), 1 + random.below(3));
         let reservations: Vec<_> = (0..n).map(|_| random.reservation()).collect();
         let constants: Vec<_> = (0..m).map(|_| random.constants()).collect();
         let params: Vec<_> = reservations.iter().map(|&(runtime, period)| Params::new(runtime, period).unwrap()).collect();
         let queue = |&(umax, uextra): &(u32, u32)| Queue { umax, uextra };
         let mut plain = plain::Book::new(&params, &constants.iter().map(queue).collect::<Vec<_>>());
-        let mut tasks: Vec<_> = reservations.iter().map(|&(runtime, period)| Task::new(runtime, period)).collect();
-        let mut queues: Vec<_> = constants.iter().map(|&(umax, uextra)| Runqueue::new(umax, uextra)).collect();
+        let mut tasks: Vec<_> = reservations.iter().map(|&(runtime, period)| TaskRecord::new(runtime, period)).collect();
+        let mut queues: Vec<_> = constants.iter().map(|&(umax, uextra)| RunqueueRecord::new(umax, uextra)).collect();
         let (mut first_tasks, mut first_queues) = (tasks.clone(), queues.clone());
         let mut book = Book::open(&mut tasks, &mut queues).unwrap();
         let (mut moment, mut history) = (0u32, vec![]);
@@ -144,32 +113,33 @@ fn main() {
             let step = random.one_of([2, 20, 5000, 1 << 22]);
             moment = (moment + random.below(step)).min(i32::MAX as u32);
             let (task, op) = next_op(&mut random, n, m, moment, &plain);
-            let reply = book.apply(task, op);
+            let reply = book.apply(Task(task), op);
             asked += 1;
             let want = if task >= n {
                 (codes::NO_TASK, 0, 0, 0, 0)
             } else if !is_op(op, m) {
                 (codes::NO_OP, 0, 0, 0, 0)
             } else {
-                history.push(Event::call(task, op, reply));
+                history.push(Event::call(Task(task), op, reply));
                 numbers(plain.ask(task, plain_op(op)))
             };
             outside += u64::from(want.0 == codes::NO_TASK || want.0 == codes::NO_OP);
             granted += u64::from(reply.is_granted());
             assert_eq!((reply.kind, reply.number, reply.budget, reply.deadline, reply.charged), want, "seed {seed} {op:?} of {task}");
-            for (r, &(running_bw, this_bw)) in plain.sums.iter().enumerate() {
-                assert_eq!(book.reading(r), Some(Reading { running_bw, this_bw }), "seed {seed} after {op:?}");
+            for (r, &(running_bw, this_bw)) in (0..).zip(&plain.sums) {
+                assert_eq!(book.reading(Runqueue(r)), Some(Reading { running_bw, this_bw }), "seed {seed} after {op:?}");
             }
             if random.below(4) == 0 {
                 let on = random.below(m);
-                assert_eq!((book.earliest(on), book.next_timer(on)), (plain.earliest(on), plain.next_timer(on)), "seed {seed}");
-                match book.exhaustion(task) {
+                let want = [plain.earliest(on), plain.next_timer(on)].map(|it| it.map(|(t, moment)| (Task(t), Moment(moment))));
+                assert_eq!([book.earliest(Runqueue(on)), book.next_timer(Runqueue(on))], want, "seed {seed}");
+                match book.exhaustion(Task(task)) {
                     Some(run) => assert!(plain.is_exhausted_by(task, run), "seed {seed}: {run} of {task}"),
                     None => assert!(!plain.records.get(task as usize).is_some_and(|held| matches!(held.place, Place::On(_, State::Contending)))),
                 }
             }
             if random.below(8) == 0 {
-                history.push(Event::reading(0, book.reading(0).unwrap()));
+                history.push(Event::reading(Runqueue(0), book.reading(Runqueue(0)).unwrap()));
             }
             if let (Some(got), Some(held)) = (book.tasks().get(task as usize), plain.records.get(task as usize)) {
                 let (state, on) = state(held.place);
@@ -189,8 +159,8 @@ fn main() {
             _ => history[at].this_bw ^= 1,
         }
         let memory = || {
-            let tasks: Vec<_> = reservations.iter().map(|&(runtime, period)| Task::new(runtime, period)).collect();
-            (tasks, constants.iter().map(|&(umax, uextra)| Runqueue::new(umax, uextra)).collect::<Vec<_>>())
+            let tasks: Vec<_> = reservations.iter().map(|&(runtime, period)| TaskRecord::new(runtime, period)).collect();
+            (tasks, constants.iter().map(|&(umax, uextra)| RunqueueRecord::new(umax, uextra)).collect::<Vec<_>>())
         };
         let (mut tasks, mut queues) = memory();
         assert_eq!(Book::open(&mut tasks, &mut queues).unwrap().check(&history), at, "seed {seed}");

@@ -1,6 +1,6 @@
 //! Nanoseconds of a transition, of plain Rust's book and of the library: 8 tasks on one runqueue, in
 //! rounds of charge, block, timer and wake, and charges alone.
-use neddwyrol::{codes, Book, Runqueue, Task};
+use neddwyrol::{codes, Book, Moment, Runqueue, RunqueueRecord, Task, TaskRecord};
 use plain::{Op, Params, Queue, Reply};
 use std::hint::black_box;
 use std::time::Instant;
@@ -39,28 +39,28 @@ fn plain_run(rounds: u32, charges_alone: bool) -> (u64, u64, f64) {
 }
 
 fn library_run(rounds: u32, charges_alone: bool) -> (u64, u64, f64) {
-    let mut tasks = [Task::new(100, 1000); 8];
-    let mut queues = [Runqueue::new(996_147, 0)];
+    let mut tasks = [TaskRecord::new(100, 1000); 8];
+    let mut queues = [RunqueueRecord::new(996_147, 0)];
     let mut book = Book::open(&mut tasks, &mut queues).unwrap();
     let (mut sum, mut ops) = (0u64, 0u64);
     for task in 0..8 {
-        book.join(task, 0, 0);
+        book.join(Task(task), Runqueue(0), Moment(0)).granted().unwrap();
     }
     let start = Instant::now();
     for i in 0..rounds {
         let (moment, task) = (i * 16, i & 7);
-        sum += book.run(task, 0, RUN).charged;
+        sum += book.run(Task(task), Runqueue(0), RUN).charged;
         ops += 1;
         if charges_alone {
             continue;
         }
-        let waits = book.block(task, 0, moment);
+        let waits = book.block(Task(task), Runqueue(0), Moment(moment));
         if waits.kind == codes::WAITING {
             sum += u64::from(waits.deadline);
-            sum += u64::from(book.timer(task, waits.number, waits.deadline).kind == codes::RETIRED);
+            sum += u64::from(book.timer(Task(task), waits.number, Moment(waits.deadline)).kind == codes::RETIRED);
             ops += 1;
         }
-        let woken = book.wake(task, 0, moment + 8);
+        let woken = book.wake(Task(task), Runqueue(0), Moment(moment + 8));
         if woken.kind == codes::WOKEN {
             sum += u64::from(woken.deadline);
         }
