@@ -1,23 +1,23 @@
 -- A book whose origin was moved goes on as it would have.
-use Rattle.std.proofs.Common.{◌≡◌, ◌≢◌, ℕ, ◌+◌, ◌-◌, ◌*◌, ◌<◌, ◌≤◌, ◌^◌, ◌==◌, ◌&&◌, inl, inr, suc, zero, nat_lt, Bool, true, false, cond, List, [], ◌∷◌, fold, length, get_or, set, map, Option, Some, None, refl, ap, subst, sym, ◌∙◌, arith}
+use Rattle.std.proofs.Common.{◌≡◌, ℕ, ◌+◌, ◌-◌, ◌*◌, ◌<◌, ◌≤◌, ◌^◌, ◌==◌, ◌&&◌, inl, inr, suc, zero, nat_lt, Bool, true, false, cond, List, [], ◌∷◌, fold, length, get_or, set, Option, Some, None, refl, ap, subst, sym, ◌∙◌, arith}
 use Rattle.std.specs.List.{position_from}
 use Rattle.std.proofs.Math.Nat.{le_of_mul-le-mul_right, mul-le-mul_right, one-le-mul}
-use Rattle.std.proofs.lemmas.Bool.{cases_eq, cases_lt, eq-eqb, eqb-true, lt-ltb, le-ltb, ltb-true, ltb-false, ne_eqb}
+use Rattle.std.proofs.lemmas.Bool.{cases_eq, cases_lt, eq-eqb, lt-ltb, le-ltb, ltb-true, ltb-false, ne_eqb}
 use Rattle.std.proofs.lemmas.List.{get_or-set_same, get_or-set_other, length-map, length-set}
 use native.Mathlib.Nat.{add-mul}
 use Rattle.grub_book.specs.Bandwidth.{Reservation, Capacity, bandwidth_of}
-use Rattle.grub_book.specs.Server.{woken_of, lag_of, charge_of, recharges_of, depleted_of}
+use Rattle.grub_book.specs.Server.{woken_of, lag_of, charge_of, recharges_of}
 use Rattle.grub_book.specs.declared.server.Server.{Server}
 use Rattle.grub_book.specs.Machine.{Machine, queue_at}
 use Rattle.grub_book.specs.Op.{IsOp}
 use Rattle.grub_book.specs.Sums.{Records, record_at, reading_of}
-use Rattle.grub_book.specs.Step.{is_inactive, is_under_claim, refused, refused_on, refused_block, refused_active, refused_charge, refused_wake, runqueue_of, settled, arrived, charged, lag_moment, step, unless}
+use Rattle.grub_book.specs.Step.{is_inactive, is_under_claim, refused, refused_block, refused_active, refused_charge, runqueue_of, settled, arrived, charged, lag_moment, step, unless}
 use Rattle.grub_book.specs.inside.Steps.{replied}
-use Rattle.grub_book.specs.History.{IsTrueOf, IsLegalFrom, after}
+use Rattle.grub_book.specs.History.{IsLegalFrom, after}
 use Rattle.grub_book.specs.Sound.{IsKept, IsSound}
 use Rattle.grub_book.specs.Totals.{shifted_of}
 use Rattle.grub_book.specs.Rebase.{bound_at, holds_back, is_before, first_held, waits, forgotten, earlier, rebased, book_rebased}
-use Rattle.grub_book.specs.Earlier.{op_earlier, reply_earlier, forgotten_of, event_earlier, events_earlier, IsSince, IsLasting, IsEventSince, AreSince}
+use Rattle.grub_book.specs.Earlier.{op_earlier, reply_earlier, forgotten_of, events_earlier, IsSince, IsLasting, AreSince}
 use Rattle.grub_book.specs.declared.rules.TheConstants.{COUNT_MAX}
 use Rattle.grub_book.specs.declared.event.Event.{Event}
 use Rattle.grub_book.specs.declared.event.Event.TheVariants.{Call, Look}
@@ -30,7 +30,7 @@ use Rattle.grub_book.specs.declared.place.Place.{Place}
 use Rattle.grub_book.specs.declared.place.Place.TheVariants.{Away, Gone, On}
 use Rattle.grub_book.specs.declared.place.Record.{Record}
 use Rattle.grub_book.specs.declared.reply.Reply.{Reply}
-use Rattle.grub_book.specs.declared.reply.Reply.TheVariants.{Joined, Woken, Waiting, Asleep, Left, Retired, Ended, Charged, Retuned, Gone as GoneReply, NotOn, AlreadyOn, Elsewhere, AlreadyContending, NotContending, StillContending, StillActive, Worn, Stale, Early, Full, DeadlineOverflow}
+use Rattle.grub_book.specs.declared.reply.Reply.TheVariants.{Joined, Woken, Waiting, Asleep, Retired, Charged, Retuned, Elsewhere, Worn, Stale, Early, Full}
 use Rattle.grub_book.proofs.Cases.{of_either, of_timer}
 use Rattle.grub_book.proofs.Claims.{refused_outside}
 use Rattle.grub_book.proofs.Rebasing.{reading_rebased, record_rebased}

@@ -1,14 +1,14 @@
 -- A book whose origin was moved: the first task that holds it back, along a loop; and what stays.
-use Rattle.std.proofs.Common.{◌≡◌, ℕ, ◌+◌, ◌-◌, ◌<◌, ◌≤◌, ◌^◌, Bool, true, false, cond, List, [], ◌∷◌, length, get_or, drop, map, Option, Some, None, nat_lt, ◌↔◌, min, refl, sym, ap, subst, ◌∙◌, arith}
-use Rattle.std.specs.List.{position_from, sum_by}
+use Rattle.std.proofs.Common.{◌≡◌, ℕ, ◌+◌, ◌<◌, ◌≤◌, Bool, true, false, cond, List, [], ◌∷◌, length, get_or, drop, map, Option, Some, None, nat_lt, ◌↔◌, min, refl, sym, ap, ◌∙◌, arith}
+use Rattle.std.specs.List.{position_from}
 use Rattle.std.proofs.lemmas.Bool.{ltb-true, ltb-false}
 use Rattle.std.proofs.lemmas.List.{at_drop_more, at_drop_all, get_or-map, length-map}
 use Rattle.std.proofs.lemmas.List.Sums.{sum_by-cons}
 use Rattle.grub_book.specs.Machine.{Machine}
 use Rattle.grub_book.specs.Sums.{Records, record_at, share_of, bandwidth_where, is_on, is_active_on, reading_of}
 use Rattle.grub_book.specs.Sound.{IsKept, IsSound, Standing}
-use Rattle.grub_book.specs.Rebase.{bound_of, is_before, holds_back, first_held, rebased, book_rebased}
-use Rattle.grub_book.specs.inside.Standings.{AreTotals, IsTotalled, AllFit, lesser_of}
+use Rattle.grub_book.specs.Rebase.{bound_of, is_before, holds_back, rebased, book_rebased}
+use Rattle.grub_book.specs.inside.Standings.{IsTotalled, AllFit, lesser_of}
 use Rattle.grub_book.specs.declared.place.Place.{Place}
 use Rattle.grub_book.specs.declared.place.Record.{Record}
 use Rattle.grub_book.specs.declared.event.Reading.{Reading}

@@ -1,5 +1,5 @@
 -- A new origin of time: moments are counted from a later one on, and tickets begin anew.
-use Rattle.std.specs.Prelude.{ℕ, ◌-◌, nat_lt, Bool, true, false, List, map, Option, Some, None, if◌then◌else◌}
+use Rattle.std.specs.Prelude.{ℕ, ◌-◌, nat_lt, Bool, true, false, map, Option, Some, None, if◌then◌else◌}
 use Rattle.std.specs.List.{position_from}
 use Rattle.grub_book.specs.Sums.{Records}
 use Rattle.grub_book.specs.Step.{lag_moment}

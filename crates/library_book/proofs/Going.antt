@@ -1,11 +1,11 @@
 -- A recorded history goes on over a rebased book as it would have.
-use Rattle.std.proofs.Common.{◌≡◌, ◌≢◌, inl, inr, ℕ, ◌+◌, ◌-◌, ◌<◌, ◌≤◌, ◌==◌, ◌&&◌, ◌||◌, nat_lt, Bool, true, false, cond, List, [], ◌∷◌, length, get_or, set, Option, Some, None, IfSome, refl, sym, ap, subst, ◌∙◌, arith}
+use Rattle.std.proofs.Common.{◌≡◌, ◌≢◌, inl, inr, ℕ, ◌+◌, ◌<◌, ◌≤◌, ◌==◌, ◌||◌, nat_lt, Bool, true, false, cond, List, [], ◌∷◌, length, set, Option, Some, None, IfSome, refl, sym, ap, subst, ◌∙◌, arith}
 use Rattle.std.specs.Option.{option_map}
-use Rattle.std.proofs.lemmas.Bool.{cases_eq, eq-eqb, eqb-true, lt-ltb, ltb-false, ltb-true, ne_eqb}
+use Rattle.std.proofs.lemmas.Bool.{cases_eq, lt-ltb, ltb-false, ltb-true, ne_eqb}
 use Rattle.std.proofs.lemmas.List.{get_or-set_same, get_or-set_other, length-set}
 use Rattle.grub_book.specs.Bandwidth.{bandwidth_of}
 use Rattle.grub_book.specs.Machine.{Machine, queue_at}
-use Rattle.grub_book.specs.Sums.{Records, record_at, reading_of, this_of}
+use Rattle.grub_book.specs.Sums.{Records, record_at, this_of}
 use Rattle.grub_book.specs.Sound.{IsKept, IsSound}
 use Rattle.grub_book.specs.Step.{refused_charge, runqueue_of, step}
 use Rattle.grub_book.specs.Rebase.{first_held, book_rebased, earlier}
@@ -13,26 +13,25 @@ use Rattle.grub_book.specs.Earlier.{IsSince, IsLasting, forgotten_of}
 use Rattle.grub_book.specs.Earlier as below
 use Rattle.grub_book.specs.declared.event.Reading.{Reading}
 use Rattle.grub_book.specs.declared.op.Op.{Op}
-use Rattle.grub_book.specs.declared.op.Op.TheVariants.{Join, Wake, Block, Leave, Timer, Exit, Charge, Retune}
+use Rattle.grub_book.specs.declared.op.Op.TheVariants.{Leave}
 use Rattle.grub_book.specs.declared.place.State.{State}
 use Rattle.grub_book.specs.declared.place.State.TheVariants.{Contending, NonContending, Inactive}
 use Rattle.grub_book.specs.declared.place.Place.{Place}
 use Rattle.grub_book.specs.declared.place.Place.TheVariants.{Away, Gone, On}
 use Rattle.grub_book.specs.declared.place.Record.{Record}
 use Rattle.grub_book.specs.declared.reply.Reply.{Reply}
-use Rattle.grub_book.specs.declared.reply.Reply.TheVariants.{Joined, Woken, Waiting, Asleep, Left, Retired, Ended, Charged, Retuned, Gone as GoneReply, NotOn, AlreadyOn, Elsewhere, AlreadyContending, NotContending, StillContending, StillActive, Worn, Stale, Early, Full, DeadlineOverflow}
-use Rattle.grub_book.proofs.Going.{IsAhead, IsEarlier, fits_earlier, goes, rebased_earlier, set_earlier}
+use Rattle.grub_book.specs.declared.reply.Reply.TheVariants.{Joined, Woken, Waiting, Charged, Gone as GoneReply, NotOn, AlreadyOn, NotContending, Worn, Early, Full, DeadlineOverflow}
+use Rattle.grub_book.proofs.Going.{IsEarlier, fits_earlier, goes, rebased_earlier, set_earlier}
 use Rattle.grub_book.proofs.Soundness.{sound_step}
-use Rattle.library_book.specs.Answer.{answer, answer_to, declined, is_move, is_op, stepped}
+use Rattle.library_book.specs.Answer.{answer, answer_to, declined, is_move, is_op}
 use Rattle.library_book.specs.Asked.{may_ask, op_of, op_fits, reply_of}
 use Rattle.library_book.specs.Earlier.{op_earlier, reply_earlier, event_earlier, IsRecordedSince, AreRecordedSince, history_earlier}
 use Rattle.library_book.specs.Move.{refused_move, moved_to, moved_in, move_step, reply_from, unless_refused}
-use Rattle.library_book.specs.Recorded.{IsAnswered, IsRead, IsOfBook, IsRecordedFrom, book_after}
+use Rattle.library_book.specs.Recorded.{IsAnswered, IsOfBook, IsRecordedFrom, book_after}
 use Rattle.library_book.specs.declared.asked.NdEvent.{NdEvent}
 use Rattle.library_book.specs.declared.asked.NdOp.{NdOp}
 use Rattle.library_book.specs.declared.asked.NdReply.{NdReply}
 use Rattle.library_book.specs.declared.asked.TheConstants.{MOVE}
-use Rattle.library_book.specs.declared.checker.TheConstants.{CALL, READING, REBASE}
 use Rattle.library_book.specs.declared.codes.TheConstants.{NO_TASK}
 use Rattle.library_book.proofs.Moves.{free_place, less_left, more_reached, some_same, sums_other}
 use Rattle.library_book.proofs.Telling.{answer_is, asked, both, call_after, fits_is, is_asked, is_fits, look_after, may_be}

@@ -21,7 +21,8 @@ pub struct NdOp {
 #[repr(C)]
 #[derive(Clone, Copy, Debug, PartialEq, Eq)]
 pub struct NdReply {
-    /// Which reply: from 101 on granted, 9 to 21 refused by the book, 70 no such task, 71 no such op, 72 no book, 74 a rebase too far.
+    /// Which reply: from 101 on granted, 9 to 21 refused by the book, 70 no such task, 71 no such op, 72 no book, 74 a rebase
+    /// too far.
     pub kind: u32,
 
     /// The ticket of a block that waits, the runqueue that a leave or a move left, that of the refusals 11 and 12, or how often a charge

@@ -87,7 +87,6 @@ fn rebases(tasks: &[NdTask], queues: &[NdRunqueue], event: &NdEvent) -> bool
     ensures no { (s : Machine) → IsBook s tasks.now queues.now → result ≡ false
         → ¬ IsRebase (records_of tasks.now) event.now }
 {
-    let _ = queues;
     foreseen_rebase(tasks, event.number) == event.reply
 }
 

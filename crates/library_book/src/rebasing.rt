@@ -114,7 +114,6 @@ pub fn rebase_limit(tasks: &[NdTask], queues: &[NdRunqueue], by: &mut u32) -> u3
         → ((first_held n (records_of tasks.now) ≡ None) ↔ (n ≤ by.new)) }
     ensures kept { result ≢ DONE → by.new ≡ by.old }
 {
-    let _ = queues;
     match limit(tasks) {
         Some(most) => {
             *by = most;

@@ -1,4 +1,4 @@
-use Rattle.std.proofs.Common.{◌≡◌, true, false, get_or, rules, refl, sym, ap, ◌∙◌, arith}
+use Rattle.std.proofs.Common.{◌≡◌, true, false, get_or, rules, sym, ap, ◌∙◌, arith}
 use Rattle.grub_book.specs.Rebase.{holds_back}
 use Rattle.library_book.specs.Memory.{record_of, records_of}
 use Rattle.library_book.specs.declared.asked.NdReply.{NdReply}

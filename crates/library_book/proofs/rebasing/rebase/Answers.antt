@@ -1,7 +1,3 @@
-use Rattle.std.proofs.Common.{◌≡◌, subst, sym}
-use Rattle.library_book.specs.Memory.{records_of, IsBook}
-use Rattle.library_book.specs.Rebase.{rebase_answer}
-use Rattle.library_book.specs.declared.memory.NdTask.{NdTask}
 use Rattle.library_book.proofs.Rebases.{answer_kept, answer_moved, book_moved}
 use Rattle.library_book.proofs.rebasing.rebase.Goals as goal
 
