@@ -10,13 +10,13 @@ from shared import ROOT
 
 
 class LastLine:
-    """The kit's form of a verdict, which may also rest on what earlier runs checked."""
+    """The kit's form of a verdict, which may also rest on what earlier runs checked. The kit's own compiler says then what it built."""
 
     def __init__(self, form):
         self.form = form
 
     def search(self, said):
-        return self.form.search(re.sub(r" incremental=trusted\n\Z", "\n", said))
+        return self.form.search(re.sub(r" incremental=trusted\n(?:built: .*\n)?\Z", "\n", said))
 
 
 def load():
