@@ -240,7 +240,7 @@ def main():
         for told in pool.map(Trial(libraries, room, time.time() + 60 * given.minutes).run, own):
             for edit, wrong in told.items():
                 tried.add(edit.label, wrong)
-    if not (given.names or given.gate or tried.failed or git("status", "--porcelain")):
+    if not (given.names or given.gate or tried.failed) and git("status", "--porcelain") == []:
         with open(ALL_TRIED, "w", encoding="utf-8") as it:
             it.write(f"{git('rev-parse', 'HEAD')[0]}\n")
     tried.end()
