@@ -43,6 +43,8 @@ pub(crate) fn asked(
         Op::Block { r, m } => blocked(tasks, queues, t, r, m),
         Op::Timer { ticket, m } => stepped(tasks, queues, t, Op::Timer { ticket, m }),
         Op::Wake { r, m } => stepped(tasks, queues, t, Op::Wake { r, m }),
+        Op::Join { r, m } => joined(tasks, queues, t, r, m),
+        Op::Leave => left(tasks, queues, t),
         _ => seldom(tasks, queues, t, op),
     }
 }
@@ -114,6 +116,42 @@ fn blocked(tasks: &mut [NdTask], queues: &mut [NdRunqueue], t: u32, r: u32, m: u
         return Some(Reply::Waiting { ticket: count, z });
     }
     stepped(tasks, queues, t, Op::Block { r, m })
+}
+
+/// `asked` of a join, by a code of its own: what it calls is not made part of its caller.
+#[inline(never)]
+fn joined(tasks: &mut [NdTask], queues: &mut [NdRunqueue], t: u32, r: u32, m: u32) -> Option<Reply>
+    requires task { t < length tasks.old }
+    requires fits { IsOp (machine_of [] queues.old) (Op.Join r m) }
+    ensures step { (s : Machine) → IsBook s tasks.old queues.old
+        → IfSome result (λ reply. (records_of tasks.new, reply)
+        ≡ step s (records_of tasks.old) t (Op.Join r m)) }
+    ensures book { (s : Machine) → IsBook s tasks.old queues.old
+        → IsBook s tasks.new queues.new }
+    ensures some { (s : Machine) → IsBook s tasks.old queues.old → IsSome result }
+    ensures none { IsNone result → (tasks.new ≡ tasks.old) × (queues.new ≡ queues.old) }
+    ensures kept { IfSome result (λ reply. Refuses reply
+        → (tasks.new ≡ tasks.old) × (queues.new ≡ queues.old)) }
+{
+    stepped(tasks, queues, t, Op::Join { r, m })
+}
+
+/// `asked` of a leave, likewise.
+#[inline(never)]
+fn left(tasks: &mut [NdTask], queues: &mut [NdRunqueue], t: u32) -> Option<Reply>
+    requires task { t < length tasks.old }
+    requires fits { IsOp (machine_of [] queues.old) Op.Leave }
+    ensures step { (s : Machine) → IsBook s tasks.old queues.old
+        → IfSome result (λ reply. (records_of tasks.new, reply)
+        ≡ step s (records_of tasks.old) t Op.Leave) }
+    ensures book { (s : Machine) → IsBook s tasks.old queues.old
+        → IsBook s tasks.new queues.new }
+    ensures some { (s : Machine) → IsBook s tasks.old queues.old → IsSome result }
+    ensures none { IsNone result → (tasks.new ≡ tasks.old) × (queues.new ≡ queues.old) }
+    ensures kept { IfSome result (λ reply. Refuses reply
+        → (tasks.new ≡ tasks.old) × (queues.new ≡ queues.old)) }
+{
+    stepped(tasks, queues, t, Op::Leave)
 }
 
 /// `asked` of an op that is asked seldom, by one code for all.
