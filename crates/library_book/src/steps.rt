@@ -81,11 +81,9 @@ fn charged(
     if refuses(reply) {
         return Some(reply);
     }
-    tasks[at] = NdTask {
-        budget: next.server.q,
-        deadline: next.server.d,
-        ..tasks[at]
-    };
+    let task = &mut tasks[at];
+    task.budget = next.server.q;
+    task.deadline = next.server.d;
     Some(reply)
 }
 
@@ -105,14 +103,11 @@ fn blocked(tasks: &mut [NdTask], queues: &mut [NdRunqueue], t: u32, r: u32, m: u
         → (tasks.new ≡ tasks.old) × (queues.new ≡ queues.old)) }
 {
     let at = t as usize;
-    let task = tasks[at];
-    if let Some(z) = waits_until(&task, r, m) {
+    if let Some(z) = waits_until(&tasks[at], r, m) {
+        let task = &mut tasks[at];
         let count = task.count + 1;
-        tasks[at] = NdTask {
-            count,
-            state: 2,
-            ..task
-        };
+        task.count = count;
+        task.state = 2;
         return Some(Reply::Waiting { ticket: count, z });
     }
     stepped(tasks, queues, t, Op::Block { r, m })
@@ -206,12 +201,9 @@ fn stepped(tasks: &mut [NdTask], queues: &mut [NdRunqueue], t: u32, op: Op) -> O
         return Some(reply);
     }
     let new = shifted(now, r, &held, &next, bw);
-    queues[on] = NdRunqueue {
-        umax: queue.umax(),
-        uextra: queue.uextra(),
-        running_bw: new.running,
-        this_bw: new.this,
-    };
+    let cell = &mut queues[on];
+    cell.running_bw = new.running;
+    cell.this_bw = new.this;
     tasks[at] = task_of(&next);
     Some(reply)
 }
