@@ -2,7 +2,6 @@ use Rattle.std.proofs.Common.{◌≡◌, None, ◌∙◌, refl, sym, subst, arit
 use Rattle.grub_book.specs.Step.{refused}
 use Rattle.grub_book.specs.Totals.{Counts}
 use Rattle.grub_book.specs.declared.event.Reading.{Reading}
-use Rattle.library_book.specs.Memory.{constants_of}
 use Rattle.library_book.specs.inside.Ready.{CanStand}
 use Rattle.library_book.proofs.Stepping.{granted, record_is, stands, there, ready, counts_it, steps, stays, steps_refused}
 use Rattle.library_book.proofs.steps.stepped.Goals as goal
@@ -52,8 +51,7 @@ returns-clause-book c =
     λ s book.
     let held = c.in_ok-held.ensures.some.0 ∙ record_is s _ _ book c.args.t c.requires.task _ in
     let free : refused c.in_ok-held.held.place c.in_ok-held.held.count c.args.op ≡ None = cc in
-    let constants : constants_of (record { umax = c.umax.result; uextra = c.uextra.result; running_bw = c.shifted-new.result.running; this_bw = c.shifted-new.result.this }) ≡ c.in_ok-queue.queue = rw (c.umax.ensures.value, c.uextra.ensures.value) refl in
-    stays s _ _ book c.args.t c.requires.task c.args.op c.requires.fits c.in_ok-held.held held c.runqueue-r.result c.runqueue-r.ensures _ _ _ c.in_ok-queue.ensures.some.0 c.in_ok-queue.ensures.some.1 _ free c.settle-reply.ensures _ c.task_of.ensures.record c.task_of.ensures.state _ c.shifted-new.ensures _ constants refl
+    stays s _ _ book c.args.t c.requires.task c.args.op c.requires.fits c.in_ok-held.held held c.runqueue-r.result c.runqueue-r.ensures _ _ _ c.in_ok-queue.ensures.some.0 c.in_ok-queue.ensures.some.1 _ free c.settle-reply.ensures _ c.task_of.ensures.record c.task_of.ensures.state _ c.shifted-new.ensures _ (sym c.in_ok-queue.ensures.some.0) refl
 
 pub returns-clause-kept : goal.returns-clause-kept
 returns-clause-kept c = λ late. absurd (granted c.in_ok-held.held c.in_ok-queue.queue c.in_ok-queue.now c.args.op _ c.settle-reply.ensures (c.refuses.ensures.all c.if-refuses.false) late)
