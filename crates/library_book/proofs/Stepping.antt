@@ -4,7 +4,7 @@ use Rattle.std.proofs.lemmas.Bool.{cases_eq, eq-eqb, lt-leb, lt-ltb, ne_eqb}
 use Rattle.std.proofs.Math.Nat.{ne_of_lt}
 use Rattle.std.proofs.lemmas.List.{get_or-map, get_or-set_same, get_or-set_other, length-map, length-set, map-set, set-get_or}
 use Rattle.grub_book.specs.Bandwidth.{Capacity, bandwidth_of}
-use Rattle.grub_book.specs.Server.{charge_of, depleted_of, woken_of}
+use Rattle.grub_book.specs.Server.{charge_of, depleted_of}
 use Rattle.grub_book.specs.declared.server.Server.{Server}
 use Rattle.grub_book.specs.Machine.{Machine, queue_at}
 use Rattle.grub_book.specs.Op.{IsOp}
@@ -18,7 +18,7 @@ use Rattle.grub_book.specs.declared.event.Reading.{Reading}
 use Rattle.grub_book.specs.declared.op.Op.{Op}
 use Rattle.grub_book.specs.declared.op.Op.TheVariants.{Join, Wake, Block, Leave, Timer, Exit, Charge, Retune}
 use Rattle.grub_book.specs.declared.reply.Reply.{Reply}
-use Rattle.grub_book.specs.declared.reply.Reply.TheVariants.{Waiting, Woken}
+use Rattle.grub_book.specs.declared.reply.Reply.TheVariants.{Waiting}
 use Rattle.grub_book.proofs.Claims.{settled_under}
 use Rattle.grub_book.proofs.Readings.{step_unchanged, reading_elsewhere}
 use Rattle.grub_book.proofs.Refusals.{refused_same}
@@ -75,22 +75,6 @@ module _ (task : NdTask) (r m z : ℕ) (on : (task.state ≡ 1) × (task.queue �
 
   pub block_quiet : changes_sum (record_of task) (Block r m) ≡ false
   block_quiet = rw (← later.0) (lt-leb z m later.1)
-
--- a wake before the 0-lag timer writes the server and the place
-module _ (task : NdTask) (r m : ℕ) (on : (task.state ≡ 2) × (task.queue ≡ r)) where
-  pub wake_free : refused (record_of task).place (record_of task).count (Wake r m) ≡ None
-  wake_free =
-      let here : nat_eq r r ≡ true = eq-eqb r r refl in
-      rw (on.0, on.1, here) refl
-
-  pub wake_early : (v : Server) → v ≡ woken_of (record_of task).server (record_of task).params m → (queue : Capacity) (now : Reading)
-      → (record_of (record task { budget = v.q; deadline = v.d; state = 1 }), Woken v.q v.d) ≡ settled (record_of task) queue now (Wake r m)
-  wake_early v is queue now =
-      let full : (record_of (record task { budget = (woken_of (record_of task).server (record_of task).params m).q; deadline = (woken_of (record_of task).server (record_of task).params m).d; state = 1 }), Woken (woken_of (record_of task).server (record_of task).params m).q (woken_of (record_of task).server (record_of task).params m).d) ≡ settled (record_of task) queue now (Wake r m) = rw (← on.1) refl in
-      subst (λ (u : Server). (record_of (record task { budget = u.q; deadline = u.d; state = 1 }), Woken u.q u.d) ≡ settled (record_of task) queue now (Wake r m)) (sym is) full
-
-  pub wake_quiet : changes_sum (record_of task) (Wake r m) ≡ false
-  wake_quiet = rw (on.0) refl
 
 -- what is said of an op, of the same op
 pub of_same : (s : Machine) (was now : Records) (t : ℕ) (given : Option Reply) (a b : Op) → a ≡ b → IfSome given (λ reply. (now, reply) ≡ step s was t b) → IfSome given (λ reply. (now, reply) ≡ step s was t a)

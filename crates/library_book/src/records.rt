@@ -2,16 +2,14 @@
 
 ghost use Rattle.std.specs.Prelude.{◌≡◌, ◌↔◌, ◌<◌, ◌≤◌, ◌^◌, if◌then◌else◌, IfSome, IsNone, IsTrue};
 ghost use Rattle.grub_book.specs.Bandwidth.{bandwidth_of};
-ghost use Rattle.grub_book.specs.Server.{woken_of};
 ghost use Rattle.grub_book.specs.Step.{lag_moment};
 ghost use Rattle.grub_book.specs.Totals.{Counts, shifted_of};
 ghost use Rattle.grub_book.specs.declared.rules.TheConstants.{COUNT_MAX};
-ghost use Rattle.grub_book.specs.declared.server.TheConstants.{MOMENT_MAX};
 ghost use Rattle.library_book.specs.Memory.{place_of, record_of, constants_of, reading_in, state_max};
 ghost use Rattle.library_book.specs.inside.Ready.{CanStand, IsReady};
 
 use crate::memory::{NdRunqueue, NdTask};
-use grub_book::{COUNT_MAX, Params, Place, Queue, Reading, Record, Server, State, woken};
+use grub_book::{COUNT_MAX, Params, Place, Queue, Reading, Record, Server, State};
 
 pub(crate) fn place_of(state: u32, queue: u32) -> Place
     ensures { result ≡ place_of state queue }
@@ -103,21 +101,6 @@ pub(crate) fn waits_until(task: &NdTask, r: u32, m: u32) -> Option<u32>
         return None;
     }
     Some((d - lag) as u32)
-}
-
-/// The server of a task that waits for its 0-lag timer on runqueue `r`, after a wake at `m`.
-#[inline(always)]
-pub(crate) fn wakes_with(task: &NdTask, r: u32, m: u32) -> Option<Server>
-    requires { m ≤ MOMENT_MAX }
-    ensures on { IfSome result (λ server. (task.now.state ≡ 2) × (task.now.queue ≡ r)) }
-    ensures value { IfSome result (λ server. server
-        ≡ woken_of (record_of task.now).server (record_of task.now).params m) }
-{
-    if task.state != 2 || task.queue != r {
-        return None;
-    }
-    let held = record_in(task)?;
-    Some(woken(held.server, held.params, m))
 }
 
 /// Whether a reading counts what a task of this bandwidth adds to it.

@@ -14,8 +14,8 @@ use crate::calls::{fits, is_move, op_of, plain_reply, reply_of};
 use crate::codes::{DAMAGED, NO_OP, NO_TASK};
 use crate::memory::{NdRunqueue, NdTask};
 use crate::moving::moved;
-use crate::records::{counts, queue_in, record_in, shifted, task_of, waits_until, wakes_with};
-use grub_book::{Op, Reply, Server, refusal, runqueue, settle};
+use crate::records::{counts, queue_in, record_in, shifted, task_of, waits_until};
+use grub_book::{Op, Reply, refusal, runqueue, settle};
 
 /// Asks an op that may be asked for task `t`, of which there is one. None where the memory is no book; then, and where the
 /// reply refuses, nothing is written.
@@ -42,7 +42,7 @@ pub(crate) fn asked(
         Op::Charge { r, dt } => charged(tasks, queues, t, r, dt),
         Op::Block { r, m } => blocked(tasks, queues, t, r, m),
         Op::Timer { ticket, m } => stepped(tasks, queues, t, Op::Timer { ticket, m }),
-        Op::Wake { r, m } => awoken(tasks, queues, t, r, m),
+        Op::Wake { r, m } => stepped(tasks, queues, t, Op::Wake { r, m }),
         Op::Join { r, m } => joined(tasks, queues, t, r, m),
         Op::Leave => left(tasks, queues, t),
         _ => seldom(tasks, queues, t, op),
@@ -111,33 +111,6 @@ fn blocked(tasks: &mut [NdTask], queues: &mut [NdRunqueue], t: u32, r: u32, m: u
         return Some(Reply::Waiting { ticket: count, z });
     }
     stepped(tasks, queues, t, Op::Block { r, m })
-}
-
-/// `asked` of a wake. Where it comes before the 0-lag timer, no sum changes, and no bandwidth is wanted.
-#[inline(always)]
-fn awoken(tasks: &mut [NdTask], queues: &mut [NdRunqueue], t: u32, r: u32, m: u32) -> Option<Reply>
-    requires task { t < length tasks.old }
-    requires fits { IsOp (machine_of [] queues.old) (Op.Wake r m) }
-    ensures step { (s : Machine) → IsBook s tasks.old queues.old
-        → IfSome result (λ reply. (records_of tasks.new, reply)
-        ≡ step s (records_of tasks.old) t (Op.Wake r m)) }
-    ensures book { (s : Machine) → IsBook s tasks.old queues.old
-        → IsBook s tasks.new queues.new }
-    ensures some { (s : Machine) → IsBook s tasks.old queues.old → IsSome result }
-    ensures none { IsNone result → (tasks.new ≡ tasks.old) × (queues.new ≡ queues.old) }
-    ensures kept { IfSome result (λ reply. Refuses reply
-        → (tasks.new ≡ tasks.old) × (queues.new ≡ queues.old)) }
-{
-    let at = t as usize;
-    if let Some(server) = wakes_with(&tasks[at], r, m) {
-        let Server { q, d } = server;
-        let task = &mut tasks[at];
-        task.budget = q;
-        task.deadline = d;
-        task.state = 1;
-        return Some(Reply::Woken { q, d });
-    }
-    stepped(tasks, queues, t, Op::Wake { r, m })
 }
 
 /// `asked` of a join, by a code of its own: what it calls is not made part of its caller.

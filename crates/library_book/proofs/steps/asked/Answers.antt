@@ -12,7 +12,7 @@ pub returns-in-Timer-clause-step : goal.returns-in-Timer-clause-step
 returns-in-Timer-clause-step c = λ s book. of_same s (records_of c.args.tasks.now) _ c.args.t _ _ _ c.in-Timer.is (c.stepped.ensures.step s book)
 
 pub returns-in-Wake-clause-step : goal.returns-in-Wake-clause-step
-returns-in-Wake-clause-step c = λ s book. of_same s (records_of c.args.tasks.now) _ c.args.t _ _ _ c.in-Wake.is (c.awoken.ensures.step s book)
+returns-in-Wake-clause-step c = λ s book. of_same s (records_of c.args.tasks.now) _ c.args.t _ _ _ c.in-Wake.is (c.stepped-in-Wake.ensures.step s book)
 
 pub returns-in-Join-clause-step : goal.returns-in-Join-clause-step
 returns-in-Join-clause-step c = λ s book. of_same s (records_of c.args.tasks.now) _ c.args.t _ _ _ c.in-Join.is (c.joined.ensures.step s book)
