@@ -1,4 +1,4 @@
 pub mod Statuses
 pub mod Files
 pub mod Rounds
-pub mod ViewWords
+pub mod Views
