@@ -2,8 +2,8 @@
 import copy
 import importlib.machinery
 import importlib.util
+import os
 import re
-import subprocess
 
 from crates import kit_folder
 from shared import ROOT
@@ -51,7 +51,7 @@ class Kit:
         """Links a program, which may call of the system what HANDLES allows: whether all is well."""
         crate = copy.copy(self.by_name[name])
         crate.out = log
-        return crate.link(made, program) == 0
+        return crate.link(made, os.path.relpath(program, crate.folder)) == 0
 
     def refuses_text(self, name, log):
         """Whether the crate's text is refused before any proof; the kit prints why."""
