@@ -10,13 +10,15 @@ from shared import ROOT
 
 
 class LastLine:
-    """The kit's form of a verdict, which may also rest on what earlier runs checked. The kit's own compiler says then what it built."""
+    """The kit's form of a verdict, which may also rest on what earlier runs checked. The kit's own compiler tells behind it what it built."""
 
     def __init__(self, form):
         self.form = form
 
     def search(self, said):
-        return self.form.search(re.sub(r" incremental=trusted\n(?:built: .*\n)?\Z", "\n", said))
+        told, verdict, _ = said.rpartition("\nlogic=proved ")
+        line = said[len(told) + 1:].partition("\n")[0]
+        return self.form.search(f"{told}\n{line.removesuffix(' incremental=trusted')}\n") if verdict else None
 
 
 def load():
