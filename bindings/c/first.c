@@ -4,10 +4,8 @@
 
 /* The reply of an op, which has to be granted. */
 static nd_reply granted(nd_reply reply) {
-    if (!nd_granted(reply)) {
-        fprintf(stderr, "refused: %s\n", nd_strerror(reply.kind));
+    if (!nd_granted(reply))
         exit(1);
-    }
     return reply;
 }
 
