@@ -28,7 +28,7 @@ runner:
 tracer:
 	@python3 scripts/build.py grubtrace
 
-# Both with nothing proved, in three minutes: out/unproved/grubrun and out/unproved/grubtrace. What overflows or leaves its bounds ends them.
+# Both with nothing proved: out/unproved/grubrun and out/unproved/grubtrace. What overflows or leaves its bounds ends them.
 unproved:
 	@python3 scripts/unproved.py
 
